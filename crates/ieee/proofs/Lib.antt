@@ -1,0 +1,10 @@
+pub mod Examples
+pub mod Grid
+pub mod Laws
+pub mod Meaning
+pub mod Order
+pub mod Read
+pub mod Root
+pub mod Sqrt
+pub mod UpperRoot
+pub mod Values

@@ -1,0 +1,12 @@
+-- `ieee::is_finite64` meets its contract: what lies between the infinities is finite. Assumes nothing.
+use lib.Ieee.{div, neg, ofBits}
+use Rattle.ieee.proofs.Values.{finite-between}
+use Rattle.ieee.proofs.is_finite64.Statement.{statement}
+use Rattle.ieee.proofs.is_finite64.Tie as tie
+
+returns : tie.Need-returns
+unfolding div neg ofBits
+returns c = finite-between (c .args .x)
+
+pub is-finite64-spec : {M : Type 1} → statement M
+is-finite64-spec = tie.close (tie.spec returns)

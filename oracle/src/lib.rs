@@ -1,0 +1,17 @@
+//! The panner's source with document 01's stand-ins, and what is made with it: case lists for
+//! the replaying programs, layouts as flat records, and the session written twice.
+
+pub mod functions;
+pub mod generators;
+pub mod history;
+pub mod layouts;
+pub mod libm;
+pub mod lists;
+pub mod random;
+pub mod record;
+pub mod selftest;
+pub mod session;
+pub mod source;
+pub mod standins;
+pub mod tolerances;
+pub mod values;

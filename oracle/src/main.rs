@@ -1,0 +1,93 @@
+//! Writes, prints and compares the case lists. See README.md.
+
+use oracle::lists::{stream, List, LISTS};
+use oracle::{libm, selftest};
+use std::io::{BufWriter, Write};
+use std::path::Path;
+use std::process::ExitCode;
+use std::{env, fs, io};
+
+const USAGE: &str = "usage: oracle cases NAME | write ROOT | fresh ROOT | stream COUNT SEED | libm | selftest";
+
+fn print(text: &str) {
+    // A reader that goes away early is no error.
+    let _ = io::stdout().write_all(text.as_bytes());
+}
+
+fn cases(name: &str) -> Result<(), String> {
+    let list = LISTS.iter().find(|l| l.name == name).ok_or(format!("no list of the name {name}"))?;
+    print(&list.text());
+    Ok(())
+}
+
+fn write(root: &str) -> Result<(), String> {
+    for list in &LISTS {
+        let (path, text) = (Path::new(root).join(list.path), list.text());
+        fs::create_dir_all(path.parent().expect("a folder")).map_err(|e| e.to_string())?;
+        fs::write(&path, &text).map_err(|e| format!("{}: {e}", list.path))?;
+        println!("{}: {} lines, {} bytes", list.path, text.lines().count(), text.len());
+    }
+    Ok(())
+}
+
+/// The number of the first line, from 1 on, in which the texts differ.
+fn first_difference(a: &str, b: &str) -> Option<usize> {
+    if a == b {
+        return None;
+    }
+    let same = a.split_inclusive('\n').zip(b.split_inclusive('\n')).take_while(|(x, y)| x == y).count();
+    Some(same + 1)
+}
+
+fn compare(root: &str, list: &List) -> Result<(), String> {
+    let stored = fs::read_to_string(Path::new(root).join(list.path)).map_err(|e| format!("{}: {e}", list.path))?;
+    match first_difference(&stored, &list.text()) {
+        None => Ok(()),
+        Some(line) => Err(format!("{}: line {line} is not what the oracle gives today", list.path)),
+    }
+}
+
+fn fresh(root: &str) -> Result<(), String> {
+    for list in &LISTS {
+        compare(root, list)?;
+        println!("{}: fresh", list.path);
+    }
+    Ok(())
+}
+
+fn number(word: &str) -> Result<u64, String> {
+    word.parse().map_err(|_| format!("{word} is no whole number"))
+}
+
+fn random_cases(count: &str, seed: &str) -> Result<(), String> {
+    let mut out = BufWriter::new(io::stdout().lock());
+    stream(number(count)?, number(seed)?, |line| {
+        let _ = out.write_all(line.as_bytes());
+    });
+    Ok(())
+}
+
+fn run(words: &[&str]) -> Result<(), String> {
+    match words {
+        ["cases", name] => cases(name),
+        ["write", root] => write(root),
+        ["fresh", root] => fresh(root),
+        ["libm"] if libm::report() => Ok(()),
+        ["libm"] => Err("a distance is beyond its bound".to_string()),
+        ["selftest"] => selftest::report(),
+        ["stream", count, seed] => random_cases(count, seed),
+        _ => Err(USAGE.to_string()),
+    }
+}
+
+fn main() -> ExitCode {
+    let words: Vec<String> = env::args().skip(1).collect();
+    let words: Vec<&str> = words.iter().map(String::as_str).collect();
+    match run(&words) {
+        Ok(()) => ExitCode::SUCCESS,
+        Err(message) => {
+            eprintln!("{message}");
+            ExitCode::FAILURE
+        }
+    }
+}
