@@ -1,0 +1,27 @@
+-- `trig::atan` meets its contract: three halvings and the sum, as the definition has them. Assumes nothing.
+use borrow.Author.Needs.{needs}
+use lib.Ieee.{ofBits}
+use Rattle.trig.specs.Arctangent.{eightfoldOf, atanOf}
+use Rattle.trig.proofs.atan.Statement.{statement}
+use Rattle.trig.proofs.atan.Tie as tie
+
+halved-requires : tie.Need-halved-requires
+halved-requires c κs = search needs
+
+halved-requires-2 : tie.Need-halved-requires-2
+halved-requires-2 c κs = search needs
+
+halved-requires-3 : tie.Need-halved-requires-3
+halved-requires-3 c κs = search needs
+
+arctangent-sum-requires : tie.Need-arctangent-sum-requires
+arctangent-sum-requires c κs = search needs
+
+returns : tie.Need-returns
+unfolding atanOf eightfoldOf ofBits
+returns c = cc
+
+pub atan-spec : {M : Type 1} → statement M
+atan-spec =
+    tie.close
+    (tie.spec halved-requires halved-requires-2 halved-requires-3 arctangent-sum-requires returns)

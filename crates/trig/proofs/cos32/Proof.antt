@@ -1,0 +1,21 @@
+-- `trig::cos32` meets its contract: widened, computed, narrowed. Assumes nothing.
+use borrow.Author.Needs.{needs}
+use Rattle.trig.specs.Sine.{cos32Of}
+use Rattle.trig.proofs.cos32.Statement.{statement}
+use Rattle.trig.proofs.cos32.Tie as tie
+
+widen-requires : tie.Need-widen-requires
+widen-requires c κs = search needs
+
+cos-requires : tie.Need-cos-requires
+cos-requires c κs = search needs
+
+narrow-requires : tie.Need-narrow-requires
+narrow-requires c κs = search needs
+
+returns : tie.Need-returns
+unfolding cos32Of
+returns c = cc
+
+pub cos32-spec : {M : Type 1} → statement M
+cos32-spec = tie.close (tie.spec widen-requires cos-requires narrow-requires returns)

@@ -1,0 +1,17 @@
+-- `trig::halved` meets its contract: it is the definition's step, and `sqrt64` gives the root. Assumes nothing.
+use borrow.Author.Needs.{needs}
+use mathlib.Core.Path.{ap}
+use lib.Ieee.{Float, binary64, add, div, ofBits}
+use Rattle.trig.specs.Arctangent.{halvedOf}
+use Rattle.trig.proofs.halved.Statement.{statement}
+use Rattle.trig.proofs.halved.Tie as tie
+
+sqrt64-requires : tie.Need-sqrt64-requires
+sqrt64-requires c κs = search needs
+
+returns : tie.Need-returns
+unfolding halvedOf ofBits
+returns c = ap (λ (x : Float). div binary64 (c .before .args .q) (add binary64 (ofBits binary64 0x3ff0_0000_0000_0000) x)) (c .sqrt64 .ensures)
+
+pub halved-spec : {M : Type 1} → statement M
+halved-spec = tie.close (tie.spec sqrt64-requires returns)

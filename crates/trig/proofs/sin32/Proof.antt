@@ -1,0 +1,21 @@
+-- `trig::sin32` meets its contract: widened, computed, narrowed. Assumes nothing.
+use borrow.Author.Needs.{needs}
+use Rattle.trig.specs.Sine.{sin32Of}
+use Rattle.trig.proofs.sin32.Statement.{statement}
+use Rattle.trig.proofs.sin32.Tie as tie
+
+widen-requires : tie.Need-widen-requires
+widen-requires c κs = search needs
+
+sin-requires : tie.Need-sin-requires
+sin-requires c κs = search needs
+
+narrow-requires : tie.Need-narrow-requires
+narrow-requires c κs = search needs
+
+returns : tie.Need-returns
+unfolding sin32Of
+returns c = cc
+
+pub sin32-spec : {M : Type 1} → statement M
+sin32-spec = tie.close (tie.spec widen-requires sin-requires narrow-requires returns)
