@@ -1,0 +1,1 @@
+// Words on lists, as definitions and laws that the other crates cite. It has no code.

@@ -1,0 +1,4 @@
+pub mod Insertion
+pub mod Angles
+pub mod Equals
+pub mod Meaning

@@ -1,0 +1,4 @@
+pub mod Chosen
+pub mod Places
+pub mod Pairs
+pub mod Constants

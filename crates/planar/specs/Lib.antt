@@ -1,0 +1,3 @@
+pub mod Planar
+pub mod Arrays
+pub mod Constants

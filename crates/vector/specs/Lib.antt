@@ -1,0 +1,4 @@
+pub mod Vector
+pub mod Speakers
+pub mod Unit
+pub mod Pulkki

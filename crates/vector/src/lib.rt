@@ -1,0 +1,104 @@
+// Vectors of three numbers: directions and the points of a hull.
+ghost use mathlib.Core.Path.{_≡_};
+ghost use Prim.Native.Nat.{_<_};
+ghost use lib.ListN.{length};
+ghost use Rattle.lists.specs.Lists.{part};
+ghost use Rattle.vector.specs.Vector.{dotOf, crossOf, lessOf, overOf, negatedOf, lengthOf, dirVecOf};
+ghost use Rattle.vector.specs.Unit.{unitIn};
+
+// A position as a direction, where it has one; +0 throughout where not.
+pub struct Direction {
+    pub accepted: bool,
+    pub dir: [f64; 3],
+}
+
+// Origin: vbap.rs line 158; a shorter position has no direction.
+const SHORTEST: f64 = 1e-6;
+
+// The position as a direction, where its length is finite and above 1e-6.
+pub fn unit(p: [f32; 3]) -> Direction
+    ensures { λ r. ⌜ r ≡ unitIn p ⌝ }
+{
+    let v = widened(p);
+    let l = length64(v);
+    if (l <= SHORTEST) | !ieee::is_finite64(l) {
+        return Direction {
+            accepted: false,
+            dir: [0.0; 3],
+        };
+    }
+    let dir = over(v, l);
+    Direction {
+        accepted: true,
+        dir,
+    }
+}
+
+// The same three numbers, in 64 bits.
+fn widened(p: [f32; 3]) -> [f64; 3]
+    ensures { λ r. ⌜ r ≡ p ⌝ }
+{
+    [ieee::widen(p[0]), ieee::widen(p[1]), ieee::widen(p[2])]
+}
+
+pub fn cross(a: [f64; 3], b: [f64; 3]) -> [f64; 3]
+    ensures { λ r. ⌜ r ≡ crossOf a b ⌝ }
+{
+    [
+        a[1] * b[2] - a[2] * b[1],
+        a[2] * b[0] - a[0] * b[2],
+        a[0] * b[1] - a[1] * b[0],
+    ]
+}
+
+pub fn dot(a: [f64; 3], b: [f64; 3]) -> f64
+    ensures { λ r. ⌜ r ≡ dotOf a b ⌝ }
+{
+    a[0] * b[0] + a[1] * b[1] + a[2] * b[2]
+}
+
+// a - b.
+pub fn less(a: [f64; 3], b: [f64; 3]) -> [f64; 3]
+    ensures { λ r. ⌜ r ≡ lessOf a b ⌝ }
+{
+    [a[0] - b[0], a[1] - b[1], a[2] - b[2]]
+}
+
+// a / l.
+pub fn over(a: [f64; 3], l: f64) -> [f64; 3]
+    ensures { λ r. ⌜ r ≡ overOf a l ⌝ }
+{
+    [a[0] / l, a[1] / l, a[2] / l]
+}
+
+// -a.
+pub fn negated(a: [f64; 3]) -> [f64; 3]
+    ensures { λ r. ⌜ r ≡ negatedOf a ⌝ }
+{
+    [-a[0], -a[1], -a[2]]
+}
+
+// The square root of a·a.
+pub fn length64(a: [f64; 3]) -> f64
+    ensures { λ r. ⌜ r ≡ lengthOf a ⌝ }
+{
+    ieee::sqrt64(dot(a, a))
+}
+
+// Point i of 54, three numbers a point. Origin of 54: document 01, 40 positions and 14 imaginary points; 162 = 54 * 3.
+// A reference does not tell the proof how long its array is, so the caller says it.
+pub fn point(pts: &[f64; 162], i: usize) -> [f64; 3]
+    requires { ⌜ (i < 54) × (length (now pts) ≡ 162) ⌝ }
+    ensures { λ r. ⌜ r ≡ part 3 (now (pts .entry)) i ⌝ }
+{
+    [pts[i * 3], pts[i * 3 + 1], pts[i * 3 + 2]]
+}
+
+// The direction of a source at an azimuth and an elevation.
+pub fn dir_vec(az: f32, el: f32) -> [f32; 3]
+    ensures { λ r. ⌜ r ≡ dirVecOf az el ⌝ }
+{
+    let a = trig::sin_cos32(az);
+    let e = trig::sin_cos32(el);
+    [a.sin * e.cos, e.sin, -a.cos * e.cos]
+}
