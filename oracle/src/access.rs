@@ -75,4 +75,3 @@ fn bytes(numbers: &[usize]) -> Vec<u8> {
 fn places(numbers: &[u8]) -> Vec<usize> {
     numbers.iter().map(|&n| n as usize).collect()
 }
-impl VbapPanner { pub fn record_len(&self)->(usize,usize){ match &self.kind { Kind::Hull{tris,imag_nbrs,..}=>(tris.len(),imag_nbrs.len()), _=>(0,0)} } }

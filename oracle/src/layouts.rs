@@ -73,6 +73,24 @@ pub fn ring(n: usize, first: f64, elevation: f64) -> Vec<[f32; 3]> {
     (0..n).map(|i| at(first + 360.0 * i as f64 / n as f64, elevation)).collect()
 }
 
+/// n times one position, behind other numbers.
+pub fn repeated(others: &[f32], position: [f32; 3], n: usize) -> Vec<f32> {
+    others.iter().copied().chain(std::iter::repeat_n(position, n).flatten()).collect()
+}
+
+/// Well-spread speakers over the front half sphere, on a spiral.
+pub fn front(n: usize) -> Vec<[f32; 3]> {
+    (0..n)
+        .map(|i| {
+            let t = (i as f64 + 0.5) / n as f64;
+            // Origin: the golden angle, in degrees, spreads a spiral's points.
+            let (around, off) = (137.50776405 * i as f64, 90.0 * t.sqrt());
+            let [x, y, z] = at(around, 90.0 - off);
+            [x, z, -y]
+        })
+        .collect()
+}
+
 /// A layout by name: positions and LFE slots.
 pub struct Ordinary {
     pub name: &'static str,
@@ -84,7 +102,8 @@ fn ordinary_layout(name: &'static str, parts: Vec<Vec<[f32; 3]>>, lfe: &[usize])
     Ordinary { name, positions: parts.concat(), lfe: lfe.to_vec() }
 }
 
-fn fan(azimuths: &[f64], elevation: f64) -> Vec<[f32; 3]> {
+/// Speakers at azimuths and one elevation.
+pub fn fan(azimuths: &[f64], elevation: f64) -> Vec<[f32; 3]> {
     azimuths.iter().map(|&a| at(a, elevation)).collect()
 }
 

@@ -1,13 +1,18 @@
 //! The panner's source with document 01's stand-ins, and what is made with it: case lists for
 //! the replaying programs, layouts as flat records, and the session written twice.
 
+pub mod chosen_layouts;
+pub mod edges;
 pub mod functions;
 pub mod generators;
 pub mod history;
+pub mod layout_line;
 pub mod layouts;
 pub mod libm;
 pub mod lists;
 pub mod random;
+pub mod random_layouts;
+pub mod rationale;
 pub mod record;
 pub mod selftest;
 pub mod session;

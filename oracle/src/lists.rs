@@ -1,60 +1,81 @@
 //! The stored case lists: which functions, where, with which seed, and their text.
 
+use crate::chosen_layouts;
 use crate::functions::function;
 use crate::generators::{chosen, draw, left_out};
+use crate::layout_line::{Layout, Tally};
 use crate::random::Random;
+use crate::random_layouts;
 use std::collections::HashSet;
 
-/// A stored list, its place below the repository's root, its seed and its functions.
+/// What a list's cases are: calls of functions, or layouts for `new`.
+pub enum Cases {
+    Functions(&'static [&'static str]),
+    Layouts(fn(&mut Random) -> Vec<Layout>),
+}
+
+/// A stored list, its place below the repository's root, its seed and its cases.
 pub struct List {
     pub name: &'static str,
     pub path: &'static str,
     pub seed: u64,
-    pub functions: &'static [&'static str],
+    pub cases: Cases,
 }
 
-/// Cases of each function: no fewer stand in a list.
+/// Cases of each function: so many stand in a list.
 pub const CASES: usize = 20_000;
 /// Greatest length of a stored list in bytes.
 pub const MAX_BYTES: usize = 3_000_000;
 
 /// Every stored list. The seeds are arbitrary.
-pub const LISTS: [List; 9] = [
+pub const LISTS: [List; 11] = [
     List {
         name: "widths",
         path: "crates/replay_widths/stdin",
         seed: 0x101,
-        functions: &["widen", "narrow", "f32_from_u64", "f64_from_u64"],
+        cases: Cases::Functions(&["widen", "narrow", "f32_from_u64", "f64_from_u64"]),
     },
-    List { name: "roots", path: "crates/replay_roots/stdin", seed: 0x102, functions: &["sqrt32", "sqrt64"] },
+    List { name: "roots", path: "crates/replay_roots/stdin", seed: 0x102, cases: Cases::Functions(&["sqrt32", "sqrt64"]) },
     List {
         name: "order32",
         path: "crates/replay_order32/stdin",
         seed: 0x103,
-        functions: &["max32", "min32", "clamp", "abs32", "powi4"],
+        cases: Cases::Functions(&["max32", "min32", "clamp", "abs32", "powi4"]),
     },
-    List { name: "order64", path: "crates/replay_order64/stdin", seed: 0x104, functions: &["max64", "abs64"] },
+    List { name: "order64", path: "crates/replay_order64/stdin", seed: 0x104, cases: Cases::Functions(&["max64", "abs64"]) },
     // Signs and kinds of values have a list of their own: with them order32 and order64 would be too long.
     List {
         name: "signs",
         path: "crates/replay_signs/stdin",
         seed: 0x105,
-        functions: &["is_finite32", "sign_bit32", "is_finite64", "sign_bit64"],
+        cases: Cases::Functions(&["is_finite32", "sign_bit32", "is_finite64", "sign_bit64"]),
     },
-    List { name: "rem", path: "crates/replay_rem/stdin", seed: 0x106, functions: &["rem_euclid32", "rem_euclid64"] },
+    List { name: "rem", path: "crates/replay_rem/stdin", seed: 0x106, cases: Cases::Functions(&["rem_euclid32", "rem_euclid64"]) },
     List {
         name: "sine",
         path: "crates/replay_sine/stdin",
         seed: 0x107,
-        functions: &["sin64", "cos64", "sin32", "cos32"],
+        cases: Cases::Functions(&["sin64", "cos64", "sin32", "cos32"]),
     },
     List {
         name: "sine_pairs",
         path: "crates/replay_sine_pairs/stdin",
         seed: 0x108,
-        functions: &["sin_cos64", "sin_cos32"],
+        cases: Cases::Functions(&["sin_cos64", "sin_cos32"]),
     },
-    List { name: "atan", path: "crates/replay_atan/stdin", seed: 0x109, functions: &["atan64", "atan2"] },
+    List { name: "atan", path: "crates/replay_atan/stdin", seed: 0x109, cases: Cases::Functions(&["atan64", "atan2"]) },
+    List {
+        name: "layouts",
+        path: "crates/replay_layouts/stdin",
+        seed: 0x10a,
+        cases: Cases::Layouts(chosen_layouts::chosen),
+    },
+    List {
+        name: "layouts_random",
+        path: "crates/replay_layouts_random/stdin",
+        seed: 0x10b,
+        cases: Cases::Layouts(random_layouts::drawn),
+    },
 ];
 
 /// Distinct arguments of one function: the chosen ones, then draws up to `count`.
@@ -76,18 +97,52 @@ fn arguments(name: &str, count: usize, r: &mut Random) -> Vec<Vec<u64>> {
     kept
 }
 
+/// What stands behind the seed in a list's first line, and its cases.
+fn function_cases(functions: &[&str], r: &mut Random) -> (String, String) {
+    let mut text = String::new();
+    for name in functions {
+        for args in arguments(name, CASES, r) {
+            text.push_str(&function(name).line(&args));
+        }
+    }
+    let named: Vec<String> = functions.iter().map(|f| format!("{f} {CASES}")).collect();
+    (named.join(", "), text)
+}
+
+/// The layouts of a list, each once.
+pub fn distinct(layouts: Vec<Layout>) -> Vec<Layout> {
+    let mut seen = HashSet::new();
+    layouts.into_iter().filter(|l| seen.insert(l.bits())).collect()
+}
+
+/// As `function_cases`, for layouts.
+fn layout_cases(layouts: Vec<Layout>) -> (String, String) {
+    let (mut tally, mut text) = (Tally::default(), String::new());
+    for layout in &layouts {
+        let given = layout.opened();
+        assert!(!given.panner.malformed(), "{}: malformed", layout.name);
+        tally.see(&given);
+        text.push_str(&layout.lines(&given));
+    }
+    (format!("new {}: {}", layouts.len(), tally.text()), text)
+}
+
 impl List {
+    /// The layouts of a list of layouts, in the order of its lines.
+    pub fn layouts(&self) -> Vec<Layout> {
+        match self.cases {
+            Cases::Functions(_) => vec![],
+            Cases::Layouts(make) => distinct(make(&mut Random::new(self.seed))),
+        }
+    }
+
     /// The whole text of the list.
     pub fn text(&self) -> String {
-        let mut r = Random::new(self.seed);
-        let named: Vec<String> = self.functions.iter().map(|f| format!("{f} {CASES}")).collect();
-        let mut text = format!("# oracle cases {}: seed {:x}; {}\n", self.name, self.seed, named.join(", "));
-        for name in self.functions {
-            let f = function(name);
-            for args in arguments(name, CASES, &mut r) {
-                text.push_str(&f.line(&args));
-            }
-        }
+        let (what, cases) = match self.cases {
+            Cases::Functions(functions) => function_cases(functions, &mut Random::new(self.seed)),
+            Cases::Layouts(_) => layout_cases(self.layouts()),
+        };
+        let text = format!("# oracle cases {}: seed {:x}; {what}\n{cases}", self.name, self.seed);
         assert!(text.len() < MAX_BYTES, "{}: {} bytes", self.name, text.len());
         text
     }

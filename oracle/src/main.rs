@@ -1,13 +1,13 @@
 //! Writes, prints and compares the case lists. See README.md.
 
 use oracle::lists::{stream, List, LISTS};
-use oracle::{libm, selftest};
+use oracle::{libm, rationale, selftest};
 use std::io::{BufWriter, Write};
 use std::path::Path;
 use std::process::ExitCode;
 use std::{env, fs, io};
 
-const USAGE: &str = "usage: oracle cases NAME | write ROOT | fresh ROOT | stream COUNT SEED | libm | selftest";
+const USAGE: &str = "usage: oracle cases NAME | write ROOT | fresh ROOT | stream COUNT SEED | libm | selftest | rationale";
 
 fn print(text: &str) {
     // A reader that goes away early is no error.
@@ -75,6 +75,7 @@ fn run(words: &[&str]) -> Result<(), String> {
         ["libm"] if libm::report() => Ok(()),
         ["libm"] => Err("a distance is beyond its bound".to_string()),
         ["selftest"] => selftest::report(),
+        ["rationale"] => rationale::report(),
         ["stream", count, seed] => random_cases(count, seed),
         _ => Err(USAGE.to_string()),
     }

@@ -2,7 +2,7 @@
 //! there and back, malformed records, and document 01's cases.
 
 use crate::history::History;
-use crate::layouts::{at, open_refusal, opened, random_layout, triples, MAX_SOURCES};
+use crate::layouts::{front, open_refusal, opened, random_layout, repeated, triples, MAX_SOURCES};
 use crate::random::Random;
 use crate::record::{Kind, Pair, Panner};
 use crate::session::{open, Call, Session, DEPTH, MAX_BLOCK};
@@ -186,24 +186,6 @@ fn malformed_records() -> Result<(), String> {
 
 // ---- document 01's cases
 
-/// n times one position, behind others.
-fn repeated(others: &[f32], position: [f32; 3], n: usize) -> Vec<f32> {
-    others.iter().copied().chain(std::iter::repeat_n(position, n).flatten()).collect()
-}
-
-/// Well-spread speakers over the front half sphere, on a spiral.
-fn front(n: usize) -> Vec<f32> {
-    (0..n)
-        .flat_map(|i| {
-            let t = (i as f64 + 0.5) / n as f64;
-            // Origin: the golden angle, in degrees, spreads a spiral's points.
-            let (around, off) = (137.50776405 * i as f64, 90.0 * t.sqrt());
-            let [x, y, z] = at(around, 90.0 - off);
-            [x, z, -y]
-        })
-        .collect()
-}
-
 /// Document 01, refusal 4 is for any list on the way.
 fn refusal_four() -> Result<(), String> {
     let corners = [1.0, -1.0, 1.0, -1.0, 1.0, 1.0, -1.0, 1.0, -1.0];
@@ -211,7 +193,7 @@ fn refusal_four() -> Result<(), String> {
     expect(many.refusal == 4 && many.lengths() == [83, 59, 63], "27 copies: 83, 59, 63, refused")?;
     let fewer = opened(&repeated(&corners, [-1.0, 0.0, 0.0], 26), &[], 1);
     expect(fewer.refusal == 0 && fewer.lengths() == [80, 57, 61], "26 copies: 80, 57, 61, accepted")?;
-    expect(open_refusal(&front(40), &[], 1) == 4, "forty well-spread speakers in front")
+    expect(open_refusal(&front(40).concat(), &[], 1) == 4, "forty well-spread speakers in front")
 }
 
 /// Document 01, "Proving ground" and the order of refusals 1 to 3.

@@ -1,0 +1,4 @@
+pub mod Walk
+pub mod Patterns
+pub mod Takes
+pub mod Places

@@ -1,0 +1,4 @@
+// Replays the cases of the remainder.
+fn main() {
+    replay::run();
+}

@@ -1,0 +1,4 @@
+// Replays the cases of the square roots.
+fn main() {
+    replay::run();
+}

@@ -1,0 +1,4 @@
+// Replays the cases of sine and cosine.
+fn main() {
+    replay::run();
+}

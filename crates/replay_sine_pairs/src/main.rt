@@ -1,0 +1,4 @@
+// Replays the cases of sine and cosine together.
+fn main() {
+    replay::run();
+}
