@@ -3,7 +3,8 @@
 // binary64: 53 digits, largest exponent 1023, smallest value 2^-1074. In a bit pattern the exponent's field weighs 2^23 = 0x80_0000 and 2^52 = 0x10_0000_0000_0000,
 // the sign 2^31 = 0x8000_0000 and 2^63 = 0x8000_0000_0000_0000, and the highest field, of infinities and NaNs, is 255 and 2047.
 ghost use mathlib.Core.Path.{_≡_};
-ghost use mathlib.Core.Bool.{false};
+ghost use mathlib.Core.Bool.{false, _&&_, _||_, cond};
+ghost use lib.Dec.{eqb};
 ghost use Prim.Native.Nat.{ℕ, _+_, _-_, _*_, _/_, _%_, _^_, _≤_, _<_};
 ghost use lib.IntN.{pos};
 ghost use lib.Ieee.{Format, binary32, binary64, prec, low, units, round, ofInt};
@@ -23,6 +24,16 @@ pub fn widen(x: f32) -> f64
     std::num::f32_to_f64_with_nan(x)
 }
 
+// What rounding adds to d / 2, where more says whether anything lies below d: above a half 1, at a tie what makes the sum even.
+fn carry(d: u64, more: bool) -> u64
+    ensures { λ r. ⌜ r ≡ cond (eqb (d % 2) 1 && (more || eqb (d / 2 % 2) 1)) 1 0 ⌝ }
+{
+    if (d % 2 == 1) & (more | (d / 2 % 2 == 1)) {
+        return 1;
+    }
+    0
+}
+
 // m / 2^sh to the nearest whole number, a tie to the even one.
 fn round_shift(m: u64, sh: u32) -> u64
     ensures { λ r. ⌜ r ≡ closest m (2 ^ sh) ⌝ }
@@ -36,14 +47,7 @@ fn round_shift(m: u64, sh: u32) -> u64
     }
     let h = sh - 1;
     let d = m >> h;
-    let q = d / 2;
-    if d % 2 == 0 {
-        return q;
-    }
-    if (d << h) != m {
-        return q + 1;
-    }
-    q + q % 2
+    d / 2 + carry(d, (d << h) != m)
 }
 
 // q * 2^k of the smallest f32 values, with the sign; too many are an infinity.

@@ -1,9 +1,12 @@
 -- `ieee::round_shift` meets its contract: the last digit shifted out and whether anything lies below it decide. Assumes nothing.
-use mathlib.Core.Path.{_≡_, sym, ap, _∙_}
+use mathlib.Core.Path.{_≡_, refl, sym, ap, _∙_}
+use mathlib.Core.Bool.{Bool, true, false, not, _&&_, _||_, cond}
 use Prim.Native.Nat.{ℕ, _+_, _-_, _*_, _/_, _%_, _^_, _≤_, _<_}
-use native.Mathlib.Nat.{div-le-self, div-mul-le-self, mod-eq-of-lt, lt-of-le-of-lt, lt-of-lt-of-le, div-add-mod'}
+use native.Mathlib.Nat.{div-le-self, div-mul-le-self, mod-eq-of-lt, lt-of-le-of-lt, lt-of-lt-of-le, div-add-mod', add-zero}
 use native.Mathlib.Omega.{arith}
 use borrow.Author.Needs.{needs}
+use borrow.Author.Tests.{eqb-true, eqb-false, not-true, not-false}
+use lib.Dec.{eqb}
 use lib.Pow.{pow-pos, pow-mono}
 use lib.Ieee.Nearest.{closest}
 use Rattle.ieee.proofs.Laws.{round-down, round-up, round-tie, none-left, whole-left, double}
@@ -17,8 +20,23 @@ at m sh x h e = e ∙ ap (closest m) (sym (double sh h))
 some : (sh : ℕ) → (sh ≡ 0 → ⊥) → 0 < sh
 some sh h = omega arith
 
-odd : (d : ℕ) → (d % 2 ≡ 0 → ⊥) → d % 2 ≡ 1
-odd d h = omega arith
+-- the carry gives the nearest whole number
+carried : (m h : ℕ) (more : Bool) → 0 < h → (more ≡ true → 0 < m % h) → (more ≡ false → m % h ≡ 0)
+    → m / h / 2 + cond (eqb (m / h % 2) 1 && (more || eqb (m / h / 2 % 2) 1)) 1 0 ≡ closest m (2 * h)
+carried m h more H some none = go (eqb (m / h % 2) 1) more (eqb (m / h / 2 % 2) 1) refl refl some none
+  where
+    even : (d : ℕ) → eqb (d % 2) 1 ≡ false → d % 2 ≡ 0
+    even d e = let n = eqb-false (d % 2) 1 e in omega arith
+
+    go : (x b y : Bool) → eqb (m / h % 2) 1 ≡ x → eqb (m / h / 2 % 2) 1 ≡ y → (b ≡ true → 0 < m % h) → (b ≡ false → m % h ≡ 0) → m / h / 2 + cond (x && (b || y)) 1 0 ≡ closest m (2 * h)
+    go false b y e f s n = add-zero (m / h / 2) ∙ round-down m h H (even (m / h) e)
+    go true true y e f s n = round-up m h H (eqb-true (m / h % 2) 1 e) (s refl)
+    go true false true e f s n = ap (λ (x : ℕ). m / h / 2 + x) (sym (eqb-true (m / h / 2 % 2) 1 f)) ∙ round-tie m h H (eqb-true (m / h % 2) 1 e) (n refl)
+    go true false false e f s n = ap (λ (x : ℕ). m / h / 2 + x) (sym (even (m / h / 2) f)) ∙ round-tie m h H (eqb-true (m / h % 2) 1 e) (n refl)
+
+carry-small : (b : Bool) → cond b 1 0 ≤ 1
+carry-small true = omega arith
+carry-small false = omega arith
 
 -- the digits put back, at 64 bits
 back : (m h : ℕ) → m < 2 ^ 64 → (m / 2 ^ h * 2 ^ h) % 2 ^ 64 ≡ m / 2 ^ h * 2 ^ h
@@ -51,45 +69,34 @@ cast-d c = search needs
 shr-d : tie.Need-shr-d
 shr-d c = search needs
 
-returns-3 : tie.Need-returns-3
-returns-3 c =
-    let a = c .before .before .before in
-    at (a .args .m) (a .args .sh) _ (some _ (c .before .before .if1 .left)) (round-down (a .args .m) (2 ^ (a .args .sh - 1)) (pow-pos (a .args .sh - 1)) (c .if3 .taken))
+cast-carry : tie.Need-cast-carry
+cast-carry c = search needs
 
-cast-if4 : tie.Need-cast-if4
-cast-if4 c = search needs
+shl-carry : tie.Need-shl-carry
+shl-carry c = search needs
 
-shl-if4 : tie.Need-shl-if4
-shl-if4 c = search needs
+carry-requires : tie.Need-carry-requires
+carry-requires c κs = search needs
 
 add-result : tie.Need-add-result
 add-result c =
-    let a = c .before .before .before .before in
-    record { fits = halved (a .args .m) (2 ^ (a .args .sh - 1)) (a .fits .m .fits) }
-
-returns-4 : tie.Need-returns-4
-returns-4 c =
-    let a = c .before .before .before .before in
-    let m = a .args .m in
-    let h = a .args .sh - 1 in
-    at m (a .args .sh) _ (some _ (c .before .before .before .if1 .left))
-    (round-up m (2 ^ h) (pow-pos h) (odd _ (c .before .if3 .left))
-    (rest-some (m / 2 ^ h * 2 ^ h) (m % 2 ^ h) m (div-add-mod' m (2 ^ h)) (λ e. c .if4 .taken (back m h (a .fits .m .fits) ∙ e))))
-
-add-result-2 : tie.Need-add-result-2
-add-result-2 c =
-    let a = c .before .before .before .before in
+    let a = c .before .before .before in
     let h = halved (a .args .m) (2 ^ (a .args .sh - 1)) (a .fits .m .fits) in
+    let e = c .carry .ensures in
+    let s = carry-small (eqb (a .args .m / 2 ^ (a .args .sh - 1) % 2) 1 && (not (eqb (a .args .m / 2 ^ (a .args .sh - 1) * 2 ^ (a .args .sh - 1) % 2 ^ 64) (a .args .m)) || eqb (a .args .m / 2 ^ (a .args .sh - 1) / 2 % 2) 1)) in
     omega arith
 
-returns-5 : tie.Need-returns-5
-returns-5 c =
-    let a = c .before .before .before .before in
+returns-3 : tie.Need-returns-3
+returns-3 c =
+    let a = c .before .before .before in
     let m = a .args .m in
     let h = a .args .sh - 1 in
-    at m (a .args .sh) _ (some _ (c .before .before .before .if1 .left))
-    (round-tie m (2 ^ h) (pow-pos h) (odd _ (c .before .if3 .left))
-    (rest-none (m / 2 ^ h * 2 ^ h) (m % 2 ^ h) m (div-add-mod' m (2 ^ h)) (sym (back m h (a .fits .m .fits)) ∙ c .if4 .left)))
+    let more : Bool = not (eqb (m / 2 ^ h * 2 ^ h % 2 ^ 64) m) in
+    at m (a .args .sh) _ (some _ (c .before .before .if1 .left))
+    (ap (λ (x : ℕ). m / 2 ^ h / 2 + x) (c .carry .ensures)
+    ∙ carried m (2 ^ h) more (pow-pos h)
+    (λ e. rest-some (m / 2 ^ h * 2 ^ h) (m % 2 ^ h) m (div-add-mod' m (2 ^ h)) (λ f. eqb-false (m / 2 ^ h * 2 ^ h % 2 ^ 64) m (not-true _ e) (back m h (a .fits .m .fits) ∙ f)))
+    (λ e. rest-none (m / 2 ^ h * 2 ^ h) (m % 2 ^ h) m (div-add-mod' m (2 ^ h)) (sym (back m h (a .fits .m .fits)) ∙ eqb-true (m / 2 ^ h * 2 ^ h % 2 ^ 64) m (not-false _ e))))
 
 pub round-shift-spec : {M : Type 1} → statement M
 round-shift-spec =
@@ -100,10 +107,8 @@ round-shift-spec =
     sub-h
     cast-d
     shr-d
-    returns-3
-    cast-if4
-    shl-if4
+    cast-carry
+    shl-carry
+    carry-requires
     add-result
-    returns-4
-    add-result-2
-    returns-5)
+    returns-3)
