@@ -1,0 +1,17 @@
+pub mod Units
+pub mod Held
+pub mod Size
+pub mod Error
+pub mod Compare
+pub mod Finite
+pub mod Square
+pub mod Root
+pub mod Remainder
+pub mod Pi
+pub mod Angle
+pub mod Sum
+pub mod Sine
+pub mod Arctangent
+pub mod Top
+pub mod Order
+pub mod Norm

@@ -1,0 +1,5 @@
+pub mod Choice
+pub mod Points
+pub mod Candidates
+pub mod Stages
+pub mod Meaning

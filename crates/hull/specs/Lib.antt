@@ -1,0 +1,4 @@
+pub mod Triplets
+pub mod Flat
+pub mod Steps
+pub mod Meaning

@@ -1,0 +1,123 @@
+-- `layout::all_level` meets its contract. The loop's invariant: the test of the directions left is the test of all. Assumes nothing.
+use Prim.Native.Nat.{ℕ, _+_, _-_, _*_, _≤_, _<_}
+use mathlib.Core.Path.{_≡_, refl, sym, ap, ap₂, _∙_}
+use mathlib.Core.Bool.{Bool, true, false, _&&_}
+use mathlib.Core.List.{List, map}
+use native.Mathlib.Omega.{arith}
+use borrow.Author.Needs.{needs}
+use lib.Ieee.{Float, nan, le}
+use lib.ListN.{length, getD}
+use Rattle.lists.specs.Lists.{every, part, range, between}
+use Rattle.lists.proofs.Parts.{getD-part}
+use Rattle.lists.proofs.Ranges.{between-cons, between-none, range-between}
+use Rattle.ieee.specs.Values.{abs}
+use Rattle.trig.specs.Sine.{sinOf}
+use Rattle.vector.specs.Vector.{pointsIn}
+use Rattle.layout.specs.Layout.{levelAt, planarMaxElevation}
+use Rattle.layout.proofs.Speakers.{every-map}
+use Rattle.layout.proofs.all_level.Statement.{statement}
+use Rattle.layout.proofs.all_level.Tie as tie
+use Rattle.layout.proofs.all_level.Reads as reads
+use Rattle.layout.proofs.all_level.Lts as lts
+use Rattle.ieee.proofs.abs64.Reads as abs64-reads
+use Rattle.ieee.proofs.widen.Reads as widen-reads
+use Rattle.trig.proofs.sin.Reads as sin-reads
+
+-- the test of a direction, by its number
+abbrev levelIn : List Float → ℕ → Bool
+levelIn dir i = levelAt (part 3 dir i)
+
+points-level : (n : ℕ) (dir : List Float) → every levelAt (pointsIn n dir) ≡ every (levelIn dir) (between 0 n)
+unfolding pointsIn
+points-level n dir = every-map levelAt (part 3 dir) (range n) ∙ ap (every (levelIn dir)) (range-between n)
+
+-- one turn, and the end
+every-cons : (f : ℕ → Bool) (i n : ℕ) → i < n → every f (between i n) ≡ f i && every f (between (i + 1) n)
+unfolding every
+every-cons f i n h = rw (between-cons i n h)
+
+every-over : (f : ℕ → Bool) (i n : ℕ) → n ≤ i → every f (between i n) ≡ true
+unfolding every
+every-over f i n h = rw (between-none i n h)
+
+-- the test as the code makes it
+level-here : (dir : List Float) (i : ℕ) (most height : Float) → most ≡ sinOf planarMaxElevation → height ≡ abs (getD dir (i * 3 + 1) nan)
+    → levelIn dir i ≡ le height most
+unfolding levelAt
+level-here dir i most height e h = ap₂ le (ap abs (getD-part 3 dir i 1 nan (omega arith)) ∙ sym h) (sym e)
+
+abbrev Inv-loop : tie.InvT-loop
+Inv-loop n dir most i₀ i = (i ≤ n) × (most ≡ sinOf planarMaxElevation) × (every (levelIn dir) (between i n) ≡ every (levelIn dir) (between 0 n))
+
+abbrev μ-loop : tie.MeasureT-loop
+μ-loop n dir most i₀ i = n - i
+
+widen-requires : tie.Need-widen-requires Inv-loop μ-loop
+widen-requires c κs = search needs
+
+sin-requires : tie.Need-sin-requires Inv-loop μ-loop
+sin-requires c κs = search needs
+
+loop-holds : tie.Need-loop-holds Inv-loop μ-loop
+loop-holds c = (omega arith, c .sin .ensures ∙ ap sinOf (c .before .widen .ensures), refl)
+
+mul-abs64 : tie.Need-mul-abs64 Inv-loop μ-loop
+mul-abs64 c = omega arith
+
+add-abs64 : tie.Need-add-abs64 Inv-loop μ-loop
+add-abs64 c = omega arith
+
+mul-abs64-2 : tie.Need-mul-abs64-2 Inv-loop μ-loop
+mul-abs64-2 c = omega arith
+
+array-read-abs64 : tie.Need-array-read-abs64 Inv-loop μ-loop
+array-read-abs64 c = omega arith
+
+abs64-requires : tie.Need-abs64-requires Inv-loop μ-loop
+abs64-requires c κs = search needs
+
+add-i : tie.Need-add-i Inv-loop μ-loop
+add-i c = omega arith
+
+loop-less : tie.Need-loop-less Inv-loop μ-loop
+loop-less c = omega arith
+
+loop-again : tie.Need-loop-again Inv-loop μ-loop
+loop-again c =
+    let a = c .before .before .before .before .before .before .args in
+    let l = c .before .before .before .loop in
+    let e : levelIn (a .t1) (l .i) ≡ true = level-here (a .t1) (l .i) _ _ (l .inv .1) (c .before .abs64 .ensures) ∙ c .if1 .taken in
+    (omega arith, l .inv .1, sym (every-cons (levelIn (a .t1)) (l .i) (a .n) (omega arith) ∙ rw e refl) ∙ l .inv .2)
+
+returns : tie.Need-returns Inv-loop μ-loop
+returns c =
+    let a = c .before .before .before .before .before .before .args in
+    let l = c .before .before .before .loop in
+    let e : levelIn (a .t1) (l .i) ≡ false = level-here (a .t1) (l .i) _ _ (l .inv .1) (c .before .abs64 .ensures) ∙ c .if1 .left in
+    sym (every-cons (levelIn (a .t1)) (l .i) (a .n) (omega arith) ∙ rw e refl) ∙ l .inv .2 ∙ sym (points-level (a .n) (a .t1))
+
+returns-2 : tie.Need-returns-2 Inv-loop μ-loop
+returns-2 c =
+    let a = c .before .before .before .before .args in
+    let l = c .before .loop in
+    sym (every-over (levelIn (a .t1)) (l .i) (a .n) (omega arith)) ∙ l .inv .2 ∙ sym (points-level (a .n) (a .t1))
+
+pub all-level-spec : {M : Type 1} → statement M
+all-level-spec =
+    tie.close
+    (tie.spec
+    Inv-loop
+    μ-loop
+    widen-requires
+    sin-requires
+    loop-holds
+    mul-abs64
+    add-abs64
+    mul-abs64-2
+    array-read-abs64
+    abs64-requires
+    add-i
+    loop-less
+    loop-again
+    returns
+    returns-2)

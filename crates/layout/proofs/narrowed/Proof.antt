@@ -1,0 +1,100 @@
+-- `layout::narrowed` meets its contract. The loop's invariant: the numbers passed stand narrowed, +0 after them. Assumes nothing.
+use Prim.Native.Nat.{ℕ, suc, _+_, _-_, _≤_, _<_}
+use mathlib.Core.Path.{_≡_, refl, sym, ap, _∙_}
+use mathlib.Core.List.{List, [], _∷_, _++_, map}
+use native.Mathlib.Numerals.{add-one}
+use native.Mathlib.Omega.{arith}
+use borrow.Author.Needs.{needs}
+use lib.Ieee.{Float, nan, ofBits}
+use lib.ListN.{length, getD, take, set, replicate, length-map}
+use lib.Seq.{take-suc, take-all, length-take-le}
+use Rattle.lists.specs.Lists.{filled}
+use Rattle.lists.proofs.Collect.{map-snoc}
+use Rattle.lists.proofs.Filled.{set-filled-at, filled-all, filled-none}
+use Rattle.ieee.specs.Values.{+0}
+use Rattle.ieee.specs.Narrow.{narrowOf}
+use Rattle.layout.proofs.narrowed.Statement.{statement}
+use Rattle.layout.proofs.narrowed.Tie as tie
+use Rattle.layout.proofs.narrowed.Reads as reads
+use Rattle.layout.proofs.narrowed.Lts as lts
+use Rattle.ieee.proofs.narrow.Reads as narrow-reads
+
+-- none yet
+narrowed-none : (dir : List Float) → replicate 120 +0 ≡ filled 120 +0 (map narrowOf (take 0 dir))
+unfolding filled
+narrowed-none [] = refl
+narrowed-none (a ∷ l) = refl
+
+-- one number more
+narrowed-more : (dir : List Float) (i : ℕ) (r : List Float) (v : Float) → i < 120 → length dir ≡ 120 → r ≡ filled 120 +0 (map narrowOf (take i dir))
+    → v ≡ narrowOf (getD dir i nan) → set r i v ≡ filled 120 +0 (map narrowOf (take (i + 1) dir))
+narrowed-more dir i r v h len e g =
+    let long : length (map narrowOf (take i dir)) ≡ i = length-map (take i dir) narrowOf ∙ length-take-le i dir (omega arith) in
+    set-filled-at 120 +0 (map narrowOf (take i dir)) v (omega arith) e (sym long)
+    ∙ ap (λ (u : Float). filled 120 +0 (map narrowOf (take i dir) ++ u ∷ [])) g
+    ∙ ap (filled 120 +0)
+    (sym (ap (λ (k : ℕ). map narrowOf (take k dir)) (add-one i) ∙ ap (map narrowOf) (take-suc dir i nan (omega arith)) ∙ map-snoc narrowOf (take i dir) (getD dir i nan)))
+
+abbrev Inv-loop : tie.InvT-loop
+Inv-loop dir r₀ i₀ r i = (i ≤ 120) × (r ≡ filled 120 +0 (map narrowOf (take i dir)))
+
+abbrev μ-loop : tie.MeasureT-loop
+μ-loop dir r₀ i₀ r i = 120 - i
+
+loop-holds : tie.Need-loop-holds Inv-loop μ-loop
+unfolding ofBits
+loop-holds c = (omega arith, narrowed-none (c .args .t1))
+
+mul-narrow : tie.Need-mul-narrow Inv-loop μ-loop
+mul-narrow c = omega arith
+
+array-read-narrow : tie.Need-array-read-narrow Inv-loop μ-loop
+array-read-narrow c = omega arith
+
+narrow-requires : tie.Need-narrow-requires Inv-loop μ-loop
+narrow-requires c κs = search needs
+
+mul-r : tie.Need-mul-r Inv-loop μ-loop
+mul-r c = omega arith
+
+array-write-r : tie.Need-array-write-r Inv-loop μ-loop
+array-write-r c = omega arith
+
+add-i : tie.Need-add-i Inv-loop μ-loop
+add-i c = omega arith
+
+loop-less : tie.Need-loop-less Inv-loop μ-loop
+loop-less c = omega arith
+
+loop-again : tie.Need-loop-again Inv-loop μ-loop
+loop-again c =
+    let a = c .before .before .before .args in
+    let l = c .before .before .loop in
+    let len : length (a .t1) ≡ 120 = c .before .before .before .good .0 .1 .0 .1 in
+    (omega arith, narrowed-more (a .t1) (l .i) _ _ (omega arith) (omega arith) (l .inv .1) (c .narrow .ensures))
+
+returns : tie.Need-returns Inv-loop μ-loop
+returns c =
+    let a = c .before .before .args in
+    let l = c .before .loop in
+    let len : length (a .t1) ≡ 120 = c .before .before .good .0 .1 .0 .1 in
+    l .inv .1
+    ∙ ap (λ (m : List Float). filled 120 +0 (map narrowOf m)) (take-all (l .i) (a .t1) (omega arith))
+    ∙ filled-all 120 +0 (map narrowOf (a .t1)) (omega (arith, length-map (a .t1) narrowOf))
+
+pub narrowed-spec : {M : Type 1} → statement M
+narrowed-spec =
+    tie.close
+    (tie.spec
+    Inv-loop
+    μ-loop
+    loop-holds
+    mul-narrow
+    array-read-narrow
+    narrow-requires
+    mul-r
+    array-write-r
+    add-i
+    loop-less
+    loop-again
+    returns)

@@ -1,0 +1,4 @@
+pub mod Layout
+pub mod Arrays
+pub mod Answers
+pub mod Meaning

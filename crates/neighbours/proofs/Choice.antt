@@ -1,0 +1,65 @@
+-- Laws of tests and of the choices by them, by the cases of a Bool. Assumes nothing.
+use mathlib.Core.Path.{_≡_, refl, sym, _∙_}
+use mathlib.Core.Bool.{Bool, true, false, cond, _&&_, _||_, true≢false, false≢true}
+use mathlib.Core.Logic.{_⊎_, inl, inr}
+
+-- ---- a choice
+
+pub pick-yes : {A : Type 0} {b : Bool} (x y : A) → b ≡ true → cond b x y ≡ x
+pick-yes x y e = rw e
+
+pub pick-no : {A : Type 0} {b : Bool} (x y : A) → b ≡ false → cond b x y ≡ y
+pick-no x y e = rw e
+
+-- ---- and
+
+pub and-no : (a b : Bool) → b ≡ false → a && b ≡ false
+and-no true b e = e
+and-no false b e = refl
+
+pub and-parts : (a b : Bool) → a && b ≡ true → (a ≡ true) × (b ≡ true)
+and-parts true b e = (refl, e)
+and-parts false b e = absurd (false≢true e)
+
+pub and-both : {a b : Bool} → a ≡ true → b ≡ true → a && b ≡ true
+and-both e g = rw e g
+
+-- ---- or
+
+pub or-false : (a b : Bool) → a || b ≡ false → (a ≡ false) × (b ≡ false)
+or-false true b e = absurd (true≢false e)
+or-false false b e = (refl, e)
+
+pub or-true : (a b : Bool) → a || b ≡ true → (a ≡ true) ⊎ (b ≡ true)
+or-true true b e = inl refl
+or-true false b e = inr e
+
+pub no-or : {a b : Bool} → a ≡ false → b ≡ false → a || b ≡ false
+no-or e g = rw e g
+
+pub or-left : (a b : Bool) → a ≡ true → a || b ≡ true
+or-left a b e = rw e
+
+pub or-right : (a b : Bool) → b ≡ true → a || b ≡ true
+or-right true b e = refl
+or-right false b e = e
+
+pub or-mono : (a b c : Bool) → (b ≡ true → c ≡ true) → a || b ≡ true → a || c ≡ true
+or-mono true b c f e = refl
+or-mono false b c f e = f e
+
+pub or-none : {a b : Bool} → b ≡ false → a || b ≡ a
+or-none {a = true} e = refl
+or-none {a = false} e = e
+
+pub or-three : (a b c : Bool) → a || (b || (c || false)) ≡ a || b || c
+or-three true b c = refl
+or-three false true c = refl
+or-three false false true = refl
+or-three false false false = refl
+
+-- ---- one test by another
+
+pub contrary : (b c : Bool) → (b ≡ true → c ≡ true) → c ≡ false → b ≡ false
+contrary true c f e = absurd (true≢false (sym (f refl) ∙ e))
+contrary false c f e = refl

@@ -1,0 +1,10 @@
+pub mod Choice
+pub mod Distinct
+pub mod Reaches
+pub mod Holds
+pub mod Triplet
+pub mod Passes
+pub mod Sound
+pub mod Left
+pub mod Laid
+pub mod Meaning

@@ -1,0 +1,4 @@
+pub mod Neighbours
+pub mod Flat
+pub mod Search
+pub mod Meaning

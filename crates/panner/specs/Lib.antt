@@ -1,0 +1,4 @@
+pub mod Shape
+pub mod Panner
+pub mod Malformed
+pub mod Meaning

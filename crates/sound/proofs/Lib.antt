@@ -1,0 +1,10 @@
+pub mod Each
+pub mod Distinct
+pub mod Directions
+pub mod Inverses
+pub mod Pairs
+pub mod Faces
+pub mod Closed
+pub mod Neighbours
+pub mod Speakers
+pub mod Layouts

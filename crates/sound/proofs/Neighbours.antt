@@ -1,0 +1,36 @@
+-- The slots that stand in for an imaginary point are real points' slots, each once: a slot is added only where it is none yet. Assumes nothing.
+use Prim.Native.Nat.{ℕ}
+use mathlib.Core.Path.{_≡_}
+use mathlib.Core.Bool.{true}
+use mathlib.Core.List.{List, [], _∷_}
+use lib.ListN.{getD}
+use Rattle.lists.specs.Lists.{member}
+use Rattle.neighbours.specs.Neighbours.{Reach, reach, pass, neighboursOf}
+use Rattle.neighbours.proofs.Distinct.{distinct-snoc}
+use Rattle.neighbours.proofs.Sound.{reach-keeps, across-keeps, pass-keeps, passes-keeps}
+use Rattle.sound.specs.Sound.{SoundNeighbours}
+use Rattle.sound.proofs.Each.{each-all, each-append, each-getD, foldl-keeps}
+use Rattle.sound.proofs.Distinct.{member-self}
+
+module _ (out : List ℕ) where
+  abbrev Kept : Reach → Type 0
+  Kept r = SoundNeighbours out (r .nbrs)
+
+  reach-kept : (r : Reach) (p : ℕ) → Kept r → Kept (reach out r p)
+  reach-kept r p h =
+      reach-keeps Kept out r p h
+      (λ l e. record {
+        apart = distinct-snoc (r .nbrs) (getD out p 0) (h .apart) e;
+        real = each-append (λ o. member o out ≡ true) (r .nbrs) (getD out p 0 ∷ []) (h .real) (each-getD (λ o. member o out ≡ true) out p 0 l (member-self out), tt);
+      })
+      (λ l e f. h)
+
+  pass-kept : (tris : List (List ℕ)) (r : Reach) → Kept r → Kept (pass out tris r)
+  pass-kept tris r h =
+      pass-keeps Kept out tris (λ ps. Unit)
+      (λ s ps q k. across-keeps Kept out s ps k (λ _. foldl-keeps Kept (λ p. Unit) (reach out) (λ t p q g. reach-kept t p g) ps (each-all (λ p. Unit) (λ p. tt) ps) s k))
+      (each-all (λ ps. Unit) (λ ps. tt) tris) r h
+
+  pub neighbours-sound : (tris : List (List ℕ)) (p : ℕ) → SoundNeighbours out (neighboursOf out tris p)
+  unfolding neighboursOf
+  neighbours-sound tris p = passes-keeps Kept out tris (pass-kept tris) 14 (record { visited = p ∷ []; nbrs = [] }) (record { apart = tt; real = tt })
