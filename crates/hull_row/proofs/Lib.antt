@@ -1,0 +1,6 @@
+pub mod Folds
+pub mod Choice
+pub mod Places
+pub mod Row
+pub mod FloatOrder
+pub mod Meaning

@@ -1,0 +1,275 @@
+-- Laws of the loops over places: an entry of an inverse, a list filled from the front, scaled from the front, summed from the front. Each goes place by place. Assumes nothing.
+use Prim.Native.Nat.{ℕ, zero, suc, _+_, _-_, _*_, _≤_, _<_, min}
+use mathlib.Core.Bool.{Bool, true, false, _&&_, _||_, not}
+use mathlib.Core.Path.{_≡_, refl, sym, ap, _∙_, subst}
+use mathlib.Core.List.{List, [], _∷_, _++_, map, foldl, append-nil}
+use native.Mathlib.Nat.{not-suc-le-zero, le-of-suc-le-suc, add-zero}
+use native.Mathlib.Numerals.{add-one}
+use native.Mathlib.Omega.{arith}
+use lib.ListN.{length, getD, set, take, drop, replicate, length-append, length-map, length-take, length-drop, length-set, drop-of-length-le}
+use lib.Seq.{drop-cons, take-suc, take-all, length-take-le, set-at, getD-at, getD-take, append-snoc, set-out}
+use lib.Dec.{T, eqb}
+use lib.Ieee.{Float, nan, binary32, add, mul, div, lt, ne}
+use lib.Ieee.Compare.{differs-from-itself}
+use borrow.Author.Tests.{lt-ltb, le-ltb}
+use Rattle.lists.specs.Lists.{range, filled, isEmpty, part}
+use Rattle.lists.proofs.Parts.{getD-part}
+use Rattle.lists.proofs.Filled.{filled-none, set-filled-at, take-filled}
+use Rattle.lists.proofs.Tests.{empty-length}
+use Rattle.lists.proofs.Ranges.{range-none, length-map-range, getD-map-range, map-range-snoc}
+use Rattle.lists.proofs.Collect.{map-snoc, foldl-snoc}
+use Rattle.ieee.specs.Values.{+0, 1·0}
+use Rattle.ieee.specs.Root.{sqrtOf}
+use Rattle.ieee.specs.Order.{maxOf, minOf, squareOf}
+use Rattle.ieee.proofs.Order.{min-first-nan, min-second-nan, min-second, min-first}
+use Rattle.vector.specs.Vector.{Vector, dotIn}
+use Rattle.planar_row.specs.PlanarRow.{addAt, count32, leastPower}
+use Rattle.hull_row.specs.HullRow.{scaled}
+use Rattle.hull_row.specs.Steps.{inverseAt, gainAt, productsOf, firstGreatest, nearestIn, toReal, toImag, addEach, sharedBy, sharedAt, sharedOut, powerOf, timesOf}
+use Rattle.hull_row.proofs.Folds.{fold-none, fold-more}
+
+-- ---- a row of an inverse, three entries 80 apart
+
+entry : (inv : List Float) (t r j at : ℕ) → r < 3 → j < 3 → at ≡ r * 240 + t + j * 80 → getD (part 3 (inverseAt inv t) r) j nan ≡ getD inv at nan
+unfolding inverseAt
+entry inv t r j at hr hj e =
+    let p : (r * 3 + j) * 80 + t ≡ at = omega arith in
+    let q : r * 3 + j < 9 = omega arith in
+    getD-part 3 (inverseAt inv t) r j nan hj
+    ∙ getD-map-range (λ i. getD inv (i * 80 + t) nan) 9 (r * 3 + j) nan q
+    ∙ ap (λ (i : ℕ). getD inv i nan) p
+
+pub gain-told : (s : Vector) (inv : List Float) (t r : ℕ) → r < 3
+    → add binary32
+    (add binary32 (mul binary32 (getD inv (r * 240 + t) nan) (getD s 0 nan)) (mul binary32 (getD inv (r * 240 + t + 80) nan) (getD s 1 nan)))
+    (mul binary32 (getD inv (r * 240 + t + 160) nan) (getD s 2 nan)) ≡ gainAt s inv t r
+unfolding gainAt dotIn
+gain-told s inv t r h =
+    rw (
+      entry inv t r 0 (r * 240 + t) h (omega arith) (omega arith),
+      entry inv t r 1 (r * 240 + t + 80) h (omega arith) (omega arith),
+      entry inv t r 2 (r * 240 + t + 160) h (omega arith) (omega arith),
+    )
+    refl
+
+-- a point of a flat array, three numbers a point
+pub product-told : (s : Vector) (dirs : List Float) (i : ℕ)
+    → add binary32
+    (add binary32 (mul binary32 (getD dirs (i * 3) nan) (getD s 0 nan)) (mul binary32 (getD dirs (i * 3 + 1) nan) (getD s 1 nan)))
+    (mul binary32 (getD dirs (i * 3 + 2) nan) (getD s 2 nan)) ≡ dotIn binary32 (part 3 dirs i) s
+unfolding dotIn
+product-told s dirs i =
+    let e : getD (part 3 dirs i) 0 nan ≡ getD dirs (i * 3) nan = getD-part 3 dirs i 0 nan (omega arith) ∙ ap (λ (k : ℕ). getD dirs k nan) (add-zero (i * 3)) in
+    rw (e, getD-part 3 dirs i 1 nan (omega arith), getD-part 3 dirs i 2 nan (omega arith)) refl
+
+-- ---- filled from the front
+
+module _ {A : Type 0} (v : A) where
+  fill-suc : (n : ℕ) (d : List A) → n < length d → set (replicate n v ++ drop n d) n v ≡ replicate (suc n) v ++ drop (suc n) d
+  fill-suc n [] l = absurd (not-suc-le-zero l)
+  fill-suc zero (x ∷ d) l = refl
+  fill-suc (suc n) (x ∷ d) l = ap (λ (t : List A). v ∷ t) (fill-suc n d (le-of-suc-le-suc l))
+
+  pub fill-more : (n : ℕ) (d : List A) → n < length d → set (replicate n v ++ drop n d) n v ≡ replicate (n + 1) v ++ drop (n + 1) d
+  fill-more n d l = subst (λ (k : ℕ). set (replicate n v ++ drop n d) n v ≡ replicate k v ++ drop k d) (sym (add-one n)) (fill-suc n d l)
+
+  pub fill-done : (n : ℕ) (d : List A) → n ≡ length d → replicate n v ++ drop n d ≡ replicate (length d) v
+  fill-done n d e = let h : length d ≤ n = omega arith in rw (drop-of-length-le d {i = n} h, append-nil, e) refl
+
+-- ---- an array of n places that takes the numbers f 0, f 1, .. one after the other
+
+module _ {A : Type 0} (n : ℕ) (z : A) (f : ℕ → A) where
+  pub mapped-none : replicate n z ≡ filled n z (map f (range 0))
+  mapped-none = sym (ap (λ (l : List ℕ). filled n z (map f l)) range-none ∙ filled-none n z)
+
+  pub mapped-more : (t : ℕ) {m : List A} {v : A} → t < n → m ≡ filled n z (map f (range t)) → v ≡ f t → set m t v ≡ filled n z (map f (range (t + 1)))
+  mapped-more t {m} {v} h e g =
+      let k : length (map f (range t)) ≡ t = length-map-range f t in
+      set-filled-at n z (map f (range t)) v (omega arith) e (sym k)
+      ∙ ap (filled n z) (ap (λ (x : A). map f (range t) ++ x ∷ []) g ∙ sym (map-range-snoc f t))
+
+-- ---- scaled from the front
+
+module _ (x : Float) (l : List Float) where
+  pub timesTo : ℕ → List Float
+  timesTo i = timesOf x (take i l) ++ drop i l
+
+  pub times-none : l ≡ timesTo 0
+  unfolding timesTo timesOf
+  times-none = refl
+
+  pub times-done : (i : ℕ) → length l ≤ i → timesTo i ≡ timesOf x l
+  unfolding timesTo
+  times-done i h = rw (take-all i l h, drop-of-length-le l {i = i} h, append-nil) refl
+
+  module _ (i : ℕ) (h : i < length l) where
+    head-long : length (timesOf x (take i l)) ≡ i
+    unfolding timesOf
+    head-long = simp length-map (length-take-le i l (omega arith))
+
+    pub times-at : getD (timesTo i) i nan ≡ getD l i nan
+    unfolding timesTo
+    times-at = rw (drop-cons l i nan h) (getD-at (timesOf x (take i l)) (getD l i nan) (drop (suc i) l) nan i head-long)
+
+    times-snoc : timesOf x (take (suc i) l) ≡ timesOf x (take i l) ++ mul binary32 (getD l i nan) x ∷ []
+    unfolding timesOf
+    times-snoc = ap (map (λ g. mul binary32 g x)) (take-suc l i nan h) ∙ map-snoc (λ g. mul binary32 g x) (take i l) (getD l i nan)
+
+    pub times-more : set (timesTo i) i (mul binary32 (getD l i nan) x) ≡ timesTo (i + 1)
+    unfolding timesTo
+    times-more =
+        rw (drop-cons l i nan h, add-one, times-snoc)
+        (set-at (timesOf x (take i l)) (getD l i nan) (drop (suc i) l) (mul binary32 (getD l i nan) x) i head-long
+        ∙ sym (append-snoc (timesOf x (take i l)) (mul binary32 (getD l i nan) x) (drop (suc i) l)))
+
+-- ---- summed from the front
+
+pub power-none : (l : List Float) → +0 ≡ powerOf (take 0 l)
+unfolding powerOf
+power-none l = refl
+
+pub power-more : (l : List Float) (i : ℕ) → i < length l
+    → add binary32 (powerOf (take i l)) (mul binary32 (getD l i nan) (getD l i nan)) ≡ powerOf (take (i + 1) l)
+unfolding powerOf squareOf
+power-more l i h =
+    rw (add-one, take-suc l i nan h) (sym (foldl-snoc (λ p g. add binary32 p (mul binary32 g g)) +0 (take i l) (getD l i nan)))
+
+-- ---- gains added in the places of slots
+
+pub length-addAt : (row : List Float) (i : ℕ) (g : Float) → length (addAt row i g) ≡ length row
+unfolding addAt
+length-addAt row i g = length-set row i (add binary32 (getD row i nan) g)
+
+pub add-out : (row : List Float) (i : ℕ) (g : Float) → length row ≤ i → row ≡ addAt row i g
+unfolding addAt
+add-out row i g h = sym (set-out row i (add binary32 (getD row i nan) g) h)
+
+pub each-none : (w : Float) (row : List Float) (slots : List ℕ) → row ≡ addEach w row (take 0 slots)
+unfolding addEach
+each-none w row slots = refl
+
+pub each-more : (w : Float) (row : List Float) (slots : List ℕ) (j : ℕ) → j < length slots
+    → addAt (addEach w row (take j slots)) (getD slots j 0) w ≡ addEach w row (take (j + 1) slots)
+unfolding addEach
+each-more w row slots j h =
+    rw (add-one, take-suc slots j 0 h) (sym (foldl-snoc (λ r o. addAt r o w) row (take j slots) (getD slots j 0)))
+
+-- ---- a gain to a real point or to an imaginary one
+
+module _ (slots : List ℕ) (n p : ℕ) (row : List Float) (g : Float) where
+  pub real-yes : n ≤ length slots → p < n → addAt row (getD slots p 0) (maxOf g +0) ≡ toReal (take n slots) row p g
+  unfolding toReal
+  real-yes h k = rw (length-take-le n slots h, lt-ltb p n k, getD-take n slots p 0 k) refl
+
+  pub real-no : n ≤ length slots → n ≤ p → row ≡ toReal (take n slots) row p g
+  unfolding toReal
+  real-no h k = rw (length-take-le n slots h, le-ltb p n k) refl
+
+module _ (n p : ℕ) (imag : List Float) (g : Float) where
+  pub imag-no : p < n → imag ≡ toImag n imag p g
+  unfolding toImag
+  imag-no k = rw (lt-ltb p n k) refl
+
+  pub imag-yes : n ≤ p → addAt imag (min (p - n) 13) (maxOf g +0) ≡ toImag n imag p g
+  unfolding toImag
+  imag-yes k = rw (le-ltb p n k) refl
+
+-- ---- the lesser of two numbers, by one test
+
+module _ (a b : Float) where
+  nan-below : ne b b ≡ true → lt b a ≡ false
+  unfolding lt
+  nan-below e = ap (λ (x : Float). lt x a) (differs-from-itself b (subst T (sym e) tt))
+
+  pub lesser-second : lt b a || ne a a ≡ true → b ≡ minOf a b
+  lesser-second h = by (ne a a) (ne b b) (lt b a) refl refl refl h
+    where
+      by : (p q r : Bool) → ne a a ≡ p → ne b b ≡ q → lt b a ≡ r → r || p ≡ true → b ≡ minOf a b
+      by true q r x y z h = min-first-nan a b x
+      by false true true x y z h = let w : true ≡ false = sym z ∙ nan-below y in cc
+      by false true false x y z h = cc
+      by false false true x y z h = min-second a b x y z
+      by false false false x y z h = cc
+
+  pub lesser-first : lt b a || ne a a ≡ false → a ≡ minOf a b
+  lesser-first h = by (ne a a) (ne b b) (lt b a) refl refl refl h
+    where
+      by : (p q r : Bool) → ne a a ≡ p → ne b b ≡ q → lt b a ≡ r → r || p ≡ false → a ≡ minOf a b
+      by true q true x y z h = cc
+      by true q false x y z h = cc
+      by false q true x y z h = cc
+      by false true false x y z h = min-second-nan a b x y
+      by false false false x y z h = min-first a b x y z
+
+-- ---- the slot of the nearest point
+
+other-default : {A : Type 0} (l : List A) (i : ℕ) (d e : A) → i < length l → getD l i d ≡ getD l i e
+other-default [] i d e h = absurd (not-suc-le-zero h)
+other-default (a ∷ l) zero d e h = refl
+other-default (a ∷ l) (suc i) d e h = other-default l i d e (le-of-suc-le-suc h)
+
+past-end : {A : Type 0} (l : List A) (i : ℕ) (d : A) → length l ≤ i → getD l i d ≡ d
+past-end [] i d h = refl
+past-end (a ∷ l) zero d h = absurd (not-suc-le-zero h)
+past-end (a ∷ l) (suc i) d h = past-end l i d (le-of-suc-le-suc h)
+
+module _ (s : Vector) (slots : List ℕ) (dirs : List Float) (n i : ℕ) (row : List Float) (e : i ≡ firstGreatest 0 (productsOf s dirs n)) (h : n ≤ length slots) where
+  at-place : nearestIn s slots dirs n row ≡ set row (getD (take n slots) i (length row)) 1·0
+  unfolding nearestIn
+  at-place = rw e refl
+
+  slot-found : i < n → getD (take n slots) i (length row) ≡ getD slots i 0
+  slot-found k = getD-take n slots i (length row) k ∙ other-default slots i (length row) 0 (omega arith)
+
+  pub nearest-set : i < n → set row (getD slots i 0) 1·0 ≡ nearestIn s slots dirs n row
+  nearest-set k = sym (at-place ∙ ap (λ (o : ℕ). set row o 1·0) (slot-found k))
+
+  pub nearest-out : i < n → length row ≤ getD slots i 0 → row ≡ nearestIn s slots dirs n row
+  nearest-out k z = sym (set-out row (getD slots i 0) 1·0 z) ∙ nearest-set k
+
+  pub nearest-none : n ≤ i → row ≡ nearestIn s slots dirs n row
+  nearest-none k =
+      let p : length (take n slots) ≤ i = omega (arith, length-take-le n slots h) in
+      sym (at-place ∙ ap (λ (o : ℕ). set row o 1·0) (past-end (take n slots) i (length row) p) ∙ set-out row (length row) 1·0 (omega arith))
+
+-- what an array holds in its first places
+pub front-filled : (k : ℕ) (l m : List Float) (n : ℕ) → m ≡ filled k +0 l → length l ≡ n → take n m ≡ l
+front-filled k l m n e g = rw (e, ← g) (take-filled k +0 l)
+
+-- ---- an imaginary gain shared out
+
+module _ (nbrs : List ℕ) (n : ℕ) (g : Float) (row : List Float) (h : n ≤ length nbrs) where
+  test-told : (lt +0 g && not (isEmpty (take n nbrs))) ≡ (lt +0 g && not (eqb n 0))
+  test-told = ap (λ (b : Bool). lt +0 g && not b) (empty-length (take n nbrs) ∙ ap (λ (k : ℕ). eqb k 0) (length-take-le n nbrs h))
+
+  pub shared-yes : (w : Float) → w ≡ div binary32 g (sqrtOf binary32 (count32 n)) → (lt +0 g && not (eqb n 0)) ≡ true
+      → addEach w row (take n nbrs) ≡ sharedBy (take n nbrs) g row
+  unfolding sharedBy
+  shared-yes w e t = rw (test-told ∙ t, length-take-le n nbrs h, e) refl
+
+  pub shared-no : (lt +0 g && not (eqb n 0)) ≡ false → row ≡ sharedBy (take n nbrs) g row
+  unfolding sharedBy
+  shared-no t = rw (test-told ∙ t) refl
+
+module _ (counts nbrs : List ℕ) (imag row : List Float) where
+  pub shared-none : row ≡ sharedOut counts nbrs imag 0 row
+  unfolding sharedOut
+  shared-none = sym (fold-none (sharedAt counts nbrs imag) row)
+
+  pub shared-more : (k : ℕ) → sharedBy (take (getD counts k 0) (take (k * 40 + 40 - k * 40) (drop (k * 40) nbrs))) (getD imag k nan) (sharedOut counts nbrs imag k row)
+      ≡ sharedOut counts nbrs imag (k + 1) row
+  unfolding sharedOut sharedAt part
+  shared-more k =
+      let e : k * 40 + 40 - k * 40 ≡ 40 = omega arith in
+      rw e (sym (fold-more (sharedAt counts nbrs imag) row k))
+
+-- ---- to power 1
+
+module _ (row : List Float) where
+  pub scaled-yes : (x : Float) → x ≡ div binary32 1·0 (sqrtOf binary32 (powerOf row)) → lt leastPower (powerOf row) ≡ true → timesOf x row ≡ scaled row
+  unfolding scaled timesOf powerOf
+  scaled-yes x e t = rw (t, e) refl
+
+  pub scaled-no : lt leastPower (powerOf row) ≡ false → row ≡ scaled row
+  unfolding scaled powerOf
+  scaled-no t = rw t refl

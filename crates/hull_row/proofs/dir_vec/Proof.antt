@@ -1,0 +1,18 @@
+-- `hull_row::dir_vec` meets its contract: the callees' sines and cosines, multiplied as the definition has them. Assumes nothing.
+use Rattle.vector.specs.Vector.{dirVecOf}
+use borrow.Author.Needs.{needs}
+use Rattle.hull_row.proofs.dir_vec.Statement.{statement}
+use Rattle.hull_row.proofs.dir_vec.Tie as tie
+
+sin-cos32-requires : tie.Need-sin-cos32-requires
+sin-cos32-requires c κs = search needs
+
+sin-cos32-requires-2 : tie.Need-sin-cos32-requires-2
+sin-cos32-requires-2 c κs = search needs
+
+returns : tie.Need-returns
+unfolding dirVecOf
+returns c = cc
+
+pub dir-vec-spec : {M : Type 1} → statement M
+dir-vec-spec = tie.close (tie.spec sin-cos32-requires sin-cos32-requires-2 returns)

@@ -1,0 +1,3 @@
+pub mod HullRow
+pub mod Steps
+pub mod Meaning

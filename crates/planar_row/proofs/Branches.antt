@@ -1,0 +1,105 @@
+-- The branches of the row's definitions, from what each test says. Assumes nothing.
+use Prim.Native.Nat.{ℕ, suc, _-_, _≤_, _<_}
+use mathlib.Core.Path.{_≡_, refl, ap, _∙_}
+use mathlib.Core.Bool.{Bool, true, false, cond}
+use mathlib.Core.List.{List, [], _∷_}
+use native.Mathlib.Nat.{not-suc-le-zero}
+use native.Mathlib.Omega.{arith}
+use lib.ListN.{length, getD, set, take, drop, replicate}
+use lib.Seq.{getD-take, length-take-le}
+use lib.Ieee.{Float, binary32, add, mul, div, lt}
+use Rattle.lists.specs.Lists.{isEmpty, firstThat, last}
+use Rattle.ieee.specs.Values.{+0}
+use Rattle.ieee.specs.Order.{squareOf}
+use Rattle.ieee.specs.Root.{sqrtOf}
+use Rattle.planar.specs.declared.Law.{Law}
+use Rattle.planar.specs.declared.Law.the-variants.{Inverse, Crossfade}
+use Rattle.planar.specs.declared.PlanarPair.{PlanarPair}
+use Rattle.planar.specs.Planar.{noPair}
+use Rattle.planar_row.specs.PlanarRow.{leastPower, Two, addAt, rel, contains, chosen, byInverse, byCrossfade, byLaw, planarSpread, spread, pairRow, planarRow}
+use Rattle.lists.proofs.Search.{first-end}
+
+cond-yes : {A : Type 0} {b : Bool} (x y : A) → b ≡ true → x ≡ cond b x y
+cond-yes x y h = rw h
+
+cond-no : {A : Type 0} {b : Bool} (x y : A) → b ≡ false → y ≡ cond b x y
+cond-no x y h = rw h
+
+-- ---- the chosen pair
+
+-- the last of a list stands at its last place
+pub last-at : {A : Type 0} (l : List A) (d e : A) → 0 < length l → last l d ≡ getD l (length l - 1) e
+unfolding last
+last-at [] d e h = absurd (not-suc-le-zero h)
+last-at (a ∷ []) d e h = refl
+last-at (a ∷ (b ∷ l)) d e h =
+    let g : length (a ∷ b ∷ l) - 1 ≡ suc (length (b ∷ l) - 1) = omega arith in
+    rw g (last-at (b ∷ l) a e (omega arith))
+
+-- what is found of n pairs from place i on
+abbrev pub foundFrom : Float → List PlanarPair → ℕ → ℕ → PlanarPair
+foundFrom az pairs n i = firstThat (contains az) (drop i (take n pairs)) (last (take n pairs) noPair)
+
+-- at the end it is the last of them
+pub found-none : (az : Float) (pairs : List PlanarPair) (n i : ℕ) (e : PlanarPair) → 0 < n → n ≤ length pairs → n ≤ i → foundFrom az pairs n i ≡ getD pairs (n - 1) e
+found-none az pairs n i e some fits h =
+    let long : length (take n pairs) ≡ n = length-take-le n pairs fits in
+    first-end (contains az) pairs n i (last (take n pairs) noPair) h fits
+    ∙ last-at (take n pairs) noPair e (omega arith)
+    ∙ rw (long, getD-take n pairs (n - 1) e (omega arith)) refl
+
+-- ---- the law of a pair
+
+module _ (az : Float) (p : PlanarPair) {law : Law} where
+  pub law-inverse : (m0 m1 m2 m3 : Float) → law ≡ Inverse m0 m1 m2 m3 → byInverse az m0 m1 m2 m3 ≡ byLaw az p law
+  unfolding byLaw
+  law-inverse m0 m1 m2 m3 e = rw e
+
+  pub law-crossfade : law ≡ Crossfade → byCrossfade (rel az p) (p .gap) ≡ byLaw az p law
+  unfolding byLaw
+  law-crossfade e = rw e
+
+-- ---- the row of a pair
+
+module _ (n : ℕ) (el : Float) (p : PlanarPair) (g : Two) (slots : List ℕ) where
+  abbrev silent : List Float
+  silent = replicate n +0
+
+  -- the row before the norm is tested
+  abbrev sounding : Float → List Float
+  sounding norm = spread (planarSpread el) slots (addAt (set silent (p .a) (div binary32 (g .ga) norm)) (p .b) (div binary32 (g .gb) norm))
+
+  module _ {norm : Float} (is : norm ≡ sqrtOf binary32 (add binary32 (mul binary32 (g .ga) (g .ga)) (mul binary32 (g .gb) (g .gb)))) where
+    row-is : cond (lt leastPower norm) (sounding norm) silent ≡ pairRow n el p g slots
+    unfolding pairRow squareOf
+    row-is = ap (λ (x : Float). cond (lt leastPower x) (sounding x) silent) is
+
+    pub row-silent : lt leastPower norm ≡ false → silent ≡ pairRow n el p g slots
+    row-silent h = cond-no (sounding norm) silent h ∙ row-is
+
+    pub row-sounds : lt leastPower norm ≡ true → sounding norm ≡ pairRow n el p g slots
+    row-sounds h = cond-yes (sounding norm) silent h ∙ row-is
+
+  -- what the code makes, store after store
+  pub row-made : (norm : Float) {w : Float} {zeros one two all : List Float}
+      → zeros ≡ silent → one ≡ set zeros (p .a) (div binary32 (g .ga) norm) → two ≡ addAt one (p .b) (div binary32 (g .gb) norm)
+      → w ≡ planarSpread el → all ≡ spread w slots two → all ≡ sounding norm
+  row-made norm e0 e1 e2 ew e3 = rw (e3, ew, e2, e1, e0)
+
+-- ---- the row of a layout
+
+pub two-same : (g : Two) {x y : Float} → x ≡ g .ga → y ≡ g .gb → _≡_ {A = Two} (record { ga = x; gb = y }) g
+two-same g e f = rw (e, f)
+
+module _ (n : ℕ) (az el : Float) (pairs : List PlanarPair) (slots : List ℕ) where
+  pub planar-silent : isEmpty pairs ≡ true → replicate n +0 ≡ planarRow n az el pairs slots
+  unfolding planarRow
+  planar-silent h = cond-yes (replicate n +0) (pairRow n el (chosen az pairs) (byLaw az (chosen az pairs) (chosen az pairs .law)) slots) h
+
+  pub planar-sounds : {p : PlanarPair} {g : Two} → p ≡ chosen az pairs → g ≡ byLaw az p (p .law) → isEmpty pairs ≡ false
+      → pairRow n el p g slots ≡ planarRow n az el pairs slots
+  unfolding planarRow
+  planar-sounds {p} {g} ep eg h =
+      ap (λ (q : Two). pairRow n el p q slots) eg
+      ∙ ap (λ (q : PlanarPair). pairRow n el q (byLaw az q (q .law)) slots) ep
+      ∙ cond-no (replicate n +0) (pairRow n el (chosen az pairs) (byLaw az (chosen az pairs) (chosen az pairs .law)) slots) h

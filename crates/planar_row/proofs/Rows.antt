@@ -1,0 +1,79 @@
+-- Laws of the row's loops: zeros stored one after another, and the spread's slots one after another. Assumes nothing.
+use Prim.Native.Nat.{ℕ, suc, _+_, _≤_, _<_}
+use mathlib.Core.Path.{_≡_, sym, ap, _∙_}
+use mathlib.Core.Bool.{true, false}
+use mathlib.Core.List.{List, [], _++_, append-nil, foldl}
+use native.Mathlib.Numerals.{add-one}
+use native.Mathlib.Omega.{arith}
+use borrow.Author.Tests.{ne-eqb}
+use lib.ListN.{length, getD, set, take, drop, replicate, length-replicate, replicate-append-replicate, drop-of-length-le}
+use lib.Seq.{drop-cons, set-at, set-out, append-snoc, take-suc, length-take-le}
+use lib.Ieee.{Float, nan, binary32, add, div, lt}
+use Rattle.lists.specs.Lists.{isEmpty}
+use Rattle.ieee.specs.Values.{+0}
+use Rattle.planar_row.specs.PlanarRow.{count32, addAt, spreadAt, spread}
+use Rattle.lists.proofs.Collect.{foldl-snoc}
+use Rattle.lists.proofs.Tests.{empty-length}
+
+-- ---- zeros
+
+module _ (l : List Float) (z : Float) where
+  pub zeros-more : (i : ℕ) {m : List Float} → i < length l → m ≡ replicate i z ++ drop i l → set m i z ≡ replicate (i + 1) z ++ drop (i + 1) l
+  zeros-more i h e =
+      rw (e, drop-cons l i nan h, add-one i)
+      (set-at (replicate i z) (getD l i nan) (drop (suc i) l) z i (length-replicate i z)
+      ∙ sym (append-snoc (replicate i z) z (drop (suc i) l))
+      ∙ ap (λ (r : List Float). r ++ drop (suc i) l) (replicate-append-replicate i 1 z ∙ ap (λ (k : ℕ). replicate k z) (add-one i)))
+
+  pub zeros-all : (i : ℕ) {m : List Float} → i ≡ length l → m ≡ replicate i z ++ drop i l → m ≡ replicate (length l) z
+  zeros-all i g e = e ∙ rw (drop-of-length-le l {i = i} (omega arith), append-nil, g)
+
+-- ---- a place beyond the end
+
+module _ (row : List Float) (i : ℕ) (beyond : length row ≤ i) where
+  pub put-beyond : (v : Float) → row ≡ set row i v
+  put-beyond v = sym (set-out row i v beyond)
+
+  pub add-beyond : (v : Float) → row ≡ addAt row i v
+  unfolding addAt
+  add-beyond v = put-beyond (add binary32 (getD row i nan) v)
+
+  pub spread-beyond : (w d2 : Float) → row ≡ spreadAt w d2 row i
+  unfolding spreadAt
+  spread-beyond w d2 = sym (set-out row i _ beyond)
+
+-- ---- the spread over the first n slots
+
+module _ (w d2 : Float) (slots : List ℕ) (row : List Float) where
+  pub slots-more : (i : ℕ) {m : List Float} → i < length slots → m ≡ foldl (spreadAt w d2) row (take i slots)
+      → spreadAt w d2 m (getD slots i 0) ≡ foldl (spreadAt w d2) row (take (i + 1) slots)
+  slots-more i h e = rw (add-one i, take-suc slots i 0 h, foldl-snoc (spreadAt w d2) row (take i slots) (getD slots i 0), e)
+
+module _ (w : Float) (slots : List ℕ) (row : List Float) where
+  pub spread-no : lt +0 w ≡ false → row ≡ spread w slots row
+  unfolding spread
+  spread-no h = rw h
+
+  pub spread-nowhere : slots ≡ [] → lt +0 w ≡ true → row ≡ spread w slots row
+  unfolding spread isEmpty
+  spread-nowhere e h = rw (e, h)
+
+  pub spread-all : {count : Float} → count ≡ count32 (length slots) → lt +0 w ≡ true → isEmpty slots ≡ false
+      → foldl (spreadAt w (div binary32 w count)) row slots ≡ spread w slots row
+  unfolding spread
+  spread-all e h some = rw (e, h, some)
+
+-- the first n of an array's elements
+pub some-taken : {A : Type 0} (l : List A) (n : ℕ) → n ≤ length l → (n ≡ 0 → ⊥) → isEmpty (take n l) ≡ false
+some-taken l n fits some =
+    let long : length (take n l) ≡ n = length-take-le n l fits in
+    empty-length (take n l) ∙ ne-eqb (length (take n l)) 0 (λ z. some (omega arith))
+
+pub none-taken : {A : Type 0} (l : List A) (n : ℕ) → n ≡ 0 → isEmpty (take n l) ≡ true
+unfolding isEmpty
+none-taken l n e = rw e
+
+pub spread-first : (w : Float) (slots : List ℕ) (row : List Float) (n : ℕ) {count : Float} → n ≤ length slots → (n ≡ 0 → ⊥) → count ≡ count32 n → lt +0 w ≡ true
+    → foldl (spreadAt w (div binary32 w count)) row (take n slots) ≡ spread w (take n slots) row
+spread-first w slots row n fits some e h =
+    spread-all w (take n slots) row (e ∙ ap count32 (sym (length-take-le n slots fits))) h (some-taken slots n fits some)

@@ -1,0 +1,2 @@
+pub mod PlanarRow
+pub mod Meaning

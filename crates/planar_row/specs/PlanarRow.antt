@@ -1,0 +1,119 @@
+-- Document 01, "A row" (Planar); source lines 80 to 93 (planar_spread) and 460 to 511 (the planar branch of gains).
+-- A row is a gain for each of n places, n = min(outputs, buffer length). `set` beyond the end of a list changes nothing: the source's `if slot < n`. Assumes nothing.
+use Prim.Native.Nat.{ℕ}
+use mathlib.Core.Bool.{Bool, _&&_, not, cond}
+use mathlib.Core.List.{List, foldl}
+use lib.IntN.{pos}
+use lib.ListN.{length, getD, set, replicate}
+use lib.Ieee.{Float, nan, binary32, add, sub, neg, mul, div, lt, le, ofBits, ofInt}
+use Rattle.lists.specs.Lists.{isEmpty, firstThat, last}
+use Rattle.ieee.specs.Values.{+0, 1·0, abs}
+use Rattle.ieee.specs.Order.{maxOf, clampOf, squareOf, powi4Of}
+use Rattle.ieee.specs.Remainder.{remEuclidOf}
+use Rattle.ieee.specs.Root.{sqrtOf}
+use Rattle.trig.specs.Sine.{sin32Of, cos32Of}
+use Rattle.planar.specs.declared.Law.{Law}
+use Rattle.planar.specs.declared.Law.the-variants.{Inverse, Crossfade}
+use Rattle.planar.specs.declared.PlanarPair.{PlanarPair}
+use Rattle.planar.specs.Planar.{noPair}
+
+-- PLANAR_MAX_ELEVATION, 0.0873 in 32 bits. Origin: vbap.rs line 52.
+abbrev pub planarMaxElevation : Float
+planarMaxElevation = ofBits binary32 0x3db2_ca58
+
+-- a whole number as a 32-bit float, rounded once
+abbrev pub count32 : ℕ → Float
+count32 n = ofInt binary32 (pos n)
+
+-- ---- constants in 32 bits
+
+-- TAU and FRAC_PI_2. Origin: std::f32::consts.
+abbrev pub tau32 : Float
+tau32 = ofBits binary32 0x40c9_0fdb
+
+abbrev pub halfPi32 : Float
+halfPi32 = ofBits binary32 0x3fc9_0fdb
+
+-- INSIDE_EPS, 1e-6. Origin: vbap.rs line 57.
+abbrev pub insideEps : Float
+insideEps = ofBits binary32 0x3586_37bd
+
+-- 1e-12. Origin: vbap.rs lines 152, 493 and 574; a norm or a power that is not above it scales nothing, and a mixed gain's squared norm is raised to it.
+abbrev pub leastPower : Float
+leastPower = ofBits binary32 0x2b8c_bccc
+
+-- ---- places
+
+unfoldable pub addAt : List Float → ℕ → Float → List Float
+addAt row i v = set row i (add binary32 (getD row i nan) v)
+
+-- ---- planar: the first pair that contains the azimuth, else the last
+
+unfoldable pub rel : Float → PlanarPair → Float
+rel az p = remEuclidOf binary32 (sub binary32 az (p .start)) tau32
+
+unfoldable pub contains : Float → PlanarPair → Bool
+contains az p = le (rel az p) (add binary32 (p .gap) insideEps)
+
+unfoldable pub chosen : Float → List PlanarPair → PlanarPair
+chosen az pairs = firstThat (contains az) pairs (last pairs noPair)
+
+-- the gains of a and b, before they are scaled
+pub record Two : Type 0 where
+  pub ga : Float
+  pub gb : Float
+
+-- the direction times the inverse; nothing below +0
+unfoldable pub byInverse : Float → Float → Float → Float → Float → Two
+byInverse az m0 m1 m2 m3 =
+    let px = sin32Of az in
+    let pz = neg (cos32Of az) in
+    record {
+      ga = maxOf (add binary32 (mul binary32 m0 px) (mul binary32 m1 pz)) +0;
+      gb = maxOf (add binary32 (mul binary32 m2 px) (mul binary32 m3 pz)) +0;
+    }
+
+-- the fraction t of the gap, shaped: t⁴ ÷ (t⁴ + (1 − t)⁴)
+unfoldable pub shaped : Float → Float
+shaped t = let t4 = powi4Of t in div binary32 t4 (add binary32 t4 (powi4Of (sub binary32 1·0 t)))
+
+-- cosine and sine of that part of a quarter turn; nothing below +0
+unfoldable pub byCrossfade : Float → Float → Two
+byCrossfade r g =
+    let a = mul binary32 (shaped (clampOf (div binary32 r g))) halfPi32 in
+    record { ga = maxOf (cos32Of a) +0; gb = maxOf (sin32Of a) +0 }
+
+unfoldable pub byLaw : Float → PlanarPair → Law → Two
+byLaw az p (Inverse m0 m1 m2 m3) = byInverse az m0 m1 m2 m3
+byLaw az p Crossfade = byCrossfade (rel az p) (p .gap)
+
+-- the part of the power that goes to all speakers alike
+unfoldable pub planarSpread : Float → Float
+planarSpread el =
+    let lo = planarMaxElevation in
+    let t = clampOf (div binary32 (sub binary32 (abs el) lo) (sub binary32 halfPi32 lo)) in
+    squareOf (sin32Of (mul binary32 t halfPi32))
+
+-- √((1 − w)·g·g + d2) in one slot; with d2 = w ÷ slots in each of the slots
+unfoldable pub spreadAt : Float → Float → List Float → ℕ → List Float
+spreadAt w d2 row s =
+    let g = getD row s nan in
+    set row s (sqrtOf binary32 (add binary32 (mul binary32 (mul binary32 (sub binary32 1·0 w) g) g) d2))
+
+unfoldable pub spread : Float → List ℕ → List Float → List Float
+spread w slots row =
+    let d2 = div binary32 w (count32 (length slots)) in
+    cond (lt +0 w && not (isEmpty slots)) (foldl (spreadAt w d2) row slots) row
+
+-- a's gain, then b's added, over their root sum of squares; a norm of 1e-12 or less stays silent
+unfoldable pub pairRow : ℕ → Float → PlanarPair → Two → List ℕ → List Float
+pairRow n el p g slots =
+    let norm = sqrtOf binary32 (add binary32 (squareOf (g .ga)) (squareOf (g .gb))) in
+    let row = addAt (set (replicate n +0) (p .a) (div binary32 (g .ga) norm)) (p .b) (div binary32 (g .gb) norm) in
+    cond (lt leastPower norm) (spread (planarSpread el) slots row) (replicate n +0)
+
+unfoldable pub planarRow : ℕ → Float → Float → List PlanarPair → List ℕ → List Float
+planarRow n az el pairs slots =
+    let p = chosen az pairs in
+    let row = pairRow n el p (byLaw az p (p .law)) slots in
+    cond (isEmpty pairs) (replicate n +0) row

@@ -1,0 +1,22 @@
+-- Document 01, "The ramp and the mixed gain follow S"; source lines 143 to 153: normalized_lerp_gain. Assumes nothing.
+use lib.Ieee.{Float, binary32, add, sub, mul, div, ofBits}
+use Rattle.ieee.specs.Values.{1·0, 2·0}
+use Rattle.ieee.specs.Order.{maxOf, clampOf}
+use Rattle.ieee.specs.Root.{sqrtOf}
+
+-- 1e-12 in 32 bits. Origin: vbap.rs line 152; the squared norm is raised to it, so that the division stands.
+abbrev pub leastNorm : Float
+leastNorm = ofBits binary32 0x2b8c_bccc
+
+-- (1 − t)·(1 − t) + t·t + 2·t·(1 − t)·dot, dot clamped
+unfoldable pub normSqOf : Float → Float → Float
+normSqOf t dot =
+    let u = sub binary32 1·0 t in
+    let ends = add binary32 (mul binary32 u u) (mul binary32 t t) in
+    add binary32 ends (mul binary32 (mul binary32 (mul binary32 2·0 t) u) (clampOf dot))
+
+-- the gain between two rows' gains at t, clamped, over the root of that
+unfoldable pub normalizedLerpGainOf : Float → Float → Float → Float → Float
+normalizedLerpGainOf from to dot at =
+    let t = clampOf at in
+    div binary32 (add binary32 from (mul binary32 (sub binary32 to from) t)) (sqrtOf binary32 (maxOf (normSqOf t dot) leastNorm))
