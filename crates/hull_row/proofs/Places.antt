@@ -6,7 +6,7 @@ use mathlib.Core.List.{List, [], _∷_, _++_, map, foldl, append-nil}
 use native.Mathlib.Nat.{not-suc-le-zero, le-of-suc-le-suc, add-zero}
 use native.Mathlib.Numerals.{add-one}
 use native.Mathlib.Omega.{arith}
-use lib.ListN.{length, getD, set, take, drop, replicate, length-append, length-map, length-take, length-drop, length-set, drop-of-length-le}
+use lib.ListN.{length, getD, set, take, drop, replicate, length-append, length-map, length-take, length-drop, length-set, drop-of-length-le, List·getD-eq-default}
 use lib.Seq.{drop-cons, take-suc, take-all, length-take-le, set-at, getD-at, getD-take, append-snoc, set-out}
 use lib.Dec.{T, eqb}
 use lib.Ieee.{Float, nan, binary32, add, mul, div, lt, ne}
@@ -61,20 +61,6 @@ unfolding dotIn
 product-told s dirs i =
     let e : getD (part 3 dirs i) 0 nan ≡ getD dirs (i * 3) nan = getD-part 3 dirs i 0 nan (omega arith) ∙ ap (λ (k : ℕ). getD dirs k nan) (add-zero (i * 3)) in
     rw (e, getD-part 3 dirs i 1 nan (omega arith), getD-part 3 dirs i 2 nan (omega arith)) refl
-
--- ---- filled from the front
-
-module _ {A : Type 0} (v : A) where
-  fill-suc : (n : ℕ) (d : List A) → n < length d → set (replicate n v ++ drop n d) n v ≡ replicate (suc n) v ++ drop (suc n) d
-  fill-suc n [] l = absurd (not-suc-le-zero l)
-  fill-suc zero (x ∷ d) l = refl
-  fill-suc (suc n) (x ∷ d) l = ap (λ (t : List A). v ∷ t) (fill-suc n d (le-of-suc-le-suc l))
-
-  pub fill-more : (n : ℕ) (d : List A) → n < length d → set (replicate n v ++ drop n d) n v ≡ replicate (n + 1) v ++ drop (n + 1) d
-  fill-more n d l = subst (λ (k : ℕ). set (replicate n v ++ drop n d) n v ≡ replicate k v ++ drop k d) (sym (add-one n)) (fill-suc n d l)
-
-  pub fill-done : (n : ℕ) (d : List A) → n ≡ length d → replicate n v ++ drop n d ≡ replicate (length d) v
-  fill-done n d e = let h : length d ≤ n = omega arith in rw (drop-of-length-le d {i = n} h, append-nil, e) refl
 
 -- ---- an array of n places that takes the numbers f 0, f 1, .. one after the other
 
@@ -135,14 +121,6 @@ power-more l i h =
     rw (add-one, take-suc l i nan h) (sym (foldl-snoc (λ p g. add binary32 p (mul binary32 g g)) +0 (take i l) (getD l i nan)))
 
 -- ---- gains added in the places of slots
-
-pub length-addAt : (row : List Float) (i : ℕ) (g : Float) → length (addAt row i g) ≡ length row
-unfolding addAt
-length-addAt row i g = length-set row i (add binary32 (getD row i nan) g)
-
-pub add-out : (row : List Float) (i : ℕ) (g : Float) → length row ≤ i → row ≡ addAt row i g
-unfolding addAt
-add-out row i g h = sym (set-out row i (add binary32 (getD row i nan) g) h)
 
 pub each-none : (w : Float) (row : List Float) (slots : List ℕ) → row ≡ addEach w row (take 0 slots)
 unfolding addEach
@@ -208,11 +186,6 @@ other-default [] i d e h = absurd (not-suc-le-zero h)
 other-default (a ∷ l) zero d e h = refl
 other-default (a ∷ l) (suc i) d e h = other-default l i d e (le-of-suc-le-suc h)
 
-past-end : {A : Type 0} (l : List A) (i : ℕ) (d : A) → length l ≤ i → getD l i d ≡ d
-past-end [] i d h = refl
-past-end (a ∷ l) zero d h = absurd (not-suc-le-zero h)
-past-end (a ∷ l) (suc i) d h = past-end l i d (le-of-suc-le-suc h)
-
 module _ (s : Vector) (slots : List ℕ) (dirs : List Float) (n i : ℕ) (row : List Float) (e : i ≡ firstGreatest 0 (productsOf s dirs n)) (h : n ≤ length slots) where
   at-place : nearestIn s slots dirs n row ≡ set row (getD (take n slots) i (length row)) 1·0
   unfolding nearestIn
@@ -224,13 +197,10 @@ module _ (s : Vector) (slots : List ℕ) (dirs : List Float) (n i : ℕ) (row : 
   pub nearest-set : i < n → set row (getD slots i 0) 1·0 ≡ nearestIn s slots dirs n row
   nearest-set k = sym (at-place ∙ ap (λ (o : ℕ). set row o 1·0) (slot-found k))
 
-  pub nearest-out : i < n → length row ≤ getD slots i 0 → row ≡ nearestIn s slots dirs n row
-  nearest-out k z = sym (set-out row (getD slots i 0) 1·0 z) ∙ nearest-set k
-
   pub nearest-none : n ≤ i → row ≡ nearestIn s slots dirs n row
   nearest-none k =
       let p : length (take n slots) ≤ i = omega (arith, length-take-le n slots h) in
-      sym (at-place ∙ ap (λ (o : ℕ). set row o 1·0) (past-end (take n slots) i (length row) p) ∙ set-out row (length row) 1·0 (omega arith))
+      sym (at-place ∙ ap (λ (o : ℕ). set row o 1·0) (List·getD-eq-default (take n slots) (length row) {n = i} p) ∙ set-out row (length row) 1·0 (omega arith))
 
 -- what an array holds in its first places
 pub front-filled : (k : ℕ) (l m : List Float) (n : ℕ) → m ≡ filled k +0 l → length l ≡ n → take n m ≡ l

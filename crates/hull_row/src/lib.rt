@@ -9,7 +9,6 @@ ghost use Rattle.lists.specs.Lists.{every, filled, part};
 ghost use Rattle.ieee.specs.Values.{+0};
 ghost use Rattle.ieee.specs.Order.{minOf};
 ghost use Rattle.vector.specs.Vector.{dotIn, dirVecOf};
-ghost use Rattle.planar_row.specs.PlanarRow.{addAt};
 ghost use Rattle.panner.specs.declared.Kind.the-variants.{Hull};
 ghost use Rattle.panner.specs.Panner.{hullIn, shapeIn};
 ghost use Rattle.panner.specs.Malformed.{countsOver};
@@ -105,27 +104,7 @@ fn chosen(inv: &[f32], n: usize, s: [f32; 3]) -> usize
     first_greatest(&m, n, n)
 }
 
-// ---- places of a row
-
-// +0 in every place.
-pub fn clear(out: &mut [f32])
-    ensures { λ _. ⌜ now (out .exit) ≡ replicate (length (now (out .entry))) +0 ⌝ }
-{
-    let mut i: usize = 0;
-    while i < out.len() {
-        out[i] = 0.0;
-        i += 1;
-    }
-}
-
-// A gain added in its place; past the end nothing.
-fn add_at(out: &mut [f32], o: usize, g: f32)
-    ensures { λ _. ⌜ now (out .exit) ≡ addAt (now (out .entry)) o g ⌝ }
-{
-    if o < out.len() {
-        out[o] = out[o] + g;
-    }
-}
+// ---- a triplet's gains, in their places
 
 // A gain of point p, nothing below +0, to its slot where p is one of the n real points.
 fn to_real(out: &mut [f32], slots: &[u8], n: usize, p: usize, g: f32)
@@ -133,7 +112,7 @@ fn to_real(out: &mut [f32], slots: &[u8], n: usize, p: usize, g: f32)
     ensures { λ _. ⌜ now (out .exit) ≡ toReal (take n (now (slots .entry))) (now (out .entry)) p g ⌝ }
 {
     if p < n {
-        add_at(out, slots[p] as usize, ieee::max32(g, 0.0));
+        planar_row::add_at(out, slots[p], ieee::max32(g, 0.0));
     }
 }
 
@@ -188,7 +167,7 @@ fn add_each(out: &mut [f32], slots: &[u8], n: usize, w: f32)
 {
     let mut j: usize = 0;
     while j < n {
-        add_at(out, slots[j] as usize, w);
+        planar_row::add_at(out, slots[j], w);
         j += 1;
     }
 }
@@ -277,10 +256,7 @@ fn nearest<'a>(out: &mut [f32], slots: &'a [u8], dirs: &'a [f32], n: usize, s: [
     let m = products(dirs, n, s);
     let i = first_greatest(&m, n, 0);
     if i < n {
-        let o = slots[i] as usize;
-        if o < out.len() {
-            out[o] = 1.0;
-        }
+        planar_row::put(out, slots[i], 1.0);
     }
 }
 
@@ -292,7 +268,7 @@ pub fn hull_row(p: VbapPanner, az: f32, el: f32, out: &mut [f32])
     ensures { λ _. ⌜ now (out .exit) ≡ hullRow (length (now (out .entry))) az el (hullIn (shapeIn p Hull)) ⌝ }
 {
     let s = dir_vec(az, el);
-    clear(out);
+    planar_row::zero(out);
     let n = p.num_tris as usize;
     let nreal = p.num_real as usize;
     let t = chosen(&p.inv, n, s);

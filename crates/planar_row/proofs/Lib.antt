@@ -1,3 +1,4 @@
 pub mod Rows
+pub mod Zeros
 pub mod Branches
 pub mod Meaning

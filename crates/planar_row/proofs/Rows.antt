@@ -11,6 +11,7 @@ use lib.Seq.{drop-cons, set-at, set-out, append-snoc, take-suc, length-take-le}
 use lib.Ieee.{Float, nan, binary32, add, div, lt}
 use Rattle.lists.specs.Lists.{isEmpty}
 use Rattle.ieee.specs.Values.{+0}
+use Rattle.planar_row.specs.Spread.{spreadGain}
 use Rattle.planar_row.specs.PlanarRow.{count32, addAt, spreadAt, spread}
 use Rattle.lists.proofs.Collect.{foldl-snoc}
 use Rattle.lists.proofs.Tests.{empty-length}
@@ -41,6 +42,12 @@ module _ (row : List Float) (i : ℕ) (beyond : length row ≤ i) where
   pub spread-beyond : (w d2 : Float) → row ≡ spreadAt w d2 row i
   unfolding spreadAt
   spread-beyond w d2 = sym (set-out row i _ beyond)
+
+-- ---- a place within
+
+pub spread-by : (row : List Float) (i : ℕ) (w d2 : Float) {v : Float} → v ≡ spreadGain w d2 (getD row i nan) → set row i v ≡ spreadAt w d2 row i
+unfolding spreadAt spreadGain
+spread-by row i w d2 e = ap (set row i) e
 
 -- ---- the spread over the first n slots
 

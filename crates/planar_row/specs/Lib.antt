@@ -1,2 +1,3 @@
 pub mod PlanarRow
+pub mod Spread
 pub mod Meaning

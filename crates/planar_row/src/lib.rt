@@ -3,6 +3,7 @@ ghost use mathlib.Core.Path.{_≡_};
 ghost use Prim.Native.Nat.{_≤_, _<_};
 ghost use lib.ListN.{length, set, replicate, take};
 ghost use Rattle.ieee.specs.Values.{+0};
+ghost use Rattle.planar_row.specs.Spread.{spreadGain};
 ghost use Rattle.planar_row.specs.PlanarRow.{addAt, rel, contains, chosen, byInverse, shaped, byCrossfade, byLaw, planarSpread, spreadAt, spread, pairRow, planarRow};
 use planar::Law;
 use planar::PlanarPair;
@@ -23,9 +24,9 @@ const TAU: f32 = 6.2831855;
 const FRAC_PI_2: f32 = 1.5707964;
 
 // The gains of a and b, before they are scaled.
-pub struct PairGains {
-    pub ga: f32,
-    pub gb: f32,
+struct PairGains {
+    ga: f32,
+    gb: f32,
 }
 
 // ---- places of a row; one beyond its end is none
@@ -144,19 +145,36 @@ fn planar_spread(el: f32) -> f32
 {
     let lo = PLANAR_MAX_ELEVATION;
     let t = ieee::clamp((ieee::abs32(el) - lo) / (FRAC_PI_2 - lo));
+    // inside the planar band the sine of nothing is nothing
+    if t == 0.0 {
+        return 0.0;
+    }
     let s = trig::sin32(t * FRAC_PI_2);
     s * s
 }
 
-// One slot's gain, with d2 of the power for each of the slots.
-fn spread_at(row: &mut [f32], slot: u8, w: f32, d2: f32)
+// The gain g with the part w of the power taken, and d2 of it given to each slot.
+fn spread_gain(w: f32, d2: f32, g: f32) -> f32
+    ensures { λ r. ⌜ r ≡ spreadGain w d2 g ⌝ }
+{
+    ieee::sqrt32((1.0 - w) * g * g + d2)
+}
+
+// One slot's gain, spread; `silent` is what a gain of zero becomes.
+fn spread_at(row: &mut [f32], slot: u8, w: f32, d2: f32, silent: f32)
+    requires { ⌜ silent ≡ spreadGain w d2 +0 ⌝ }
     ensures { λ r. ⌜ now (row .exit) ≡ spreadAt w d2 (now (row .entry)) slot ⌝ }
 {
     let i = slot as usize;
-    if i < row.len() {
-        let g = row[i];
-        row[i] = ieee::sqrt32((1.0 - w) * g * g + d2);
+    if row.len() <= i {
+        return;
     }
+    let g = row[i];
+    if g == 0.0 {
+        row[i] = silent;
+        return;
+    }
+    row[i] = spread_gain(w, d2, g);
 }
 
 // The part w of the power, over the first n slots alike.
@@ -171,9 +189,10 @@ fn spread_over(w: f32, slots: [u8; 40], n: usize, row: &mut [f32])
         return;
     }
     let d2 = w / ieee::f32_from_u64(n as u64);
+    let silent = spread_gain(w, d2, 0.0);
     let mut i: usize = 0;
     while i < n {
-        spread_at(&mut *row, slots[i], w, d2);
+        spread_at(&mut *row, slots[i], w, d2, silent);
         i += 1;
     }
 }

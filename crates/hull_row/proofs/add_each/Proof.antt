@@ -27,9 +27,6 @@ loop-holds c =
 shared-slice-read-add-at : tie.Need-shared-slice-read-add-at Inv-loop μ-loop
 shared-slice-read-add-at c = omega arith
 
-cast-add-at : tie.Need-cast-add-at Inv-loop μ-loop
-cast-add-at c = omega (arith, c .shared-slice-known2 .given (c .before .before .before .loop .j))
-
 add-at-requires : tie.Need-add-at-requires Inv-loop μ-loop
 add-at-requires c κs = search needs
 
@@ -67,7 +64,6 @@ add-each-spec =
     μ-loop
     loop-holds
     shared-slice-read-add-at
-    cast-add-at
     add-at-requires
     add-j
     loop-less

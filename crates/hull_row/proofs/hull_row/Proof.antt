@@ -12,8 +12,8 @@ use Rattle.hull_row.proofs.hull_row.Tie as tie
 dir-vec-requires : tie.Need-dir-vec-requires
 dir-vec-requires c κs = search needs
 
-clear-requires : tie.Need-clear-requires
-clear-requires c κs = search needs
+zero-requires : tie.Need-zero-requires
+zero-requires c κs = search needs
 
 cast-n : tie.Need-cast-n
 cast-n c = search needs
@@ -34,13 +34,13 @@ nearest-requires c κs =
     omega (arith, w .real)
 
 same-length : tie.Need-same-length
-same-length c = c .before .before .nearest .kept .0 ∙ c .before .before .before .before .before .before .before .before .before .before .before .before .before .before .before .before .clear .kept .0
+same-length c = c .before .before .nearest .kept .0 ∙ c .before .before .before .before .before .before .before .before .before .before .before .before .before .before .before .before .zero .kept .0
 
 returns : tie.Need-returns
 returns c =
     let s = c .before .before .before .before .before .before .before .before .before .before .before .before .before .before .before .before .before .before .before .before in
     let a = s .args in
-    nearest-made (a .t1) (length (now (a .out))) (a .az) (a .el) _ _ _ (c .before .before .before .before .before .before .before .before .before .before .before .before .before .before .before .before .before .before .dir-vec .ensures) (c .before .before .before .before .before .before .before .before .before .before .chosen .ensures) (c .before .before .before .before .before .before .before .before .before .before .before .before .before .before .before .before .clear .ensures) _
+    nearest-made (a .t1) (length (now (a .out))) (a .az) (a .el) _ _ _ (c .before .before .before .before .before .before .before .before .before .before .before .before .before .before .before .before .before .before .dir-vec .ensures) (c .before .before .before .before .before .before .before .before .before .before .chosen .ensures) (c .before .before .before .before .before .before .before .before .before .before .before .before .before .before .before .before .zero .ensures) _
     (c .before .before .before .before .before .before .before .before .before .if1 .taken) (c .before .before .nearest .ensures)
 
 gains-at-requires : tie.Need-gains-at-requires
@@ -77,14 +77,14 @@ scale-requires : tie.Need-scale-requires
 scale-requires c κs = search needs
 
 same-length-2 : tie.Need-same-length-2
-same-length-2 c = c .before .before .scale .kept .0 ∙ c .before .before .before .before .before .before .share-out .kept .0 ∙ c .before .before .before .before .before .before .before .before .before .before .before .before .before .before .before .before .before .before .before .real-points .kept .0 ∙ c .before .before .before .before .before .before .before .before .before .before .before .before .before .before .before .before .before .before .before .before .before .before .before .before .before .before .before .before .before .before .before .before .before .before .before .before .before .clear .kept .0
+same-length-2 c = c .before .before .scale .kept .0 ∙ c .before .before .before .before .before .before .share-out .kept .0 ∙ c .before .before .before .before .before .before .before .before .before .before .before .before .before .before .before .before .before .before .before .real-points .kept .0 ∙ c .before .before .before .before .before .before .before .before .before .before .before .before .before .before .before .before .before .before .before .before .before .before .before .before .before .before .before .before .before .before .before .before .before .before .before .before .before .zero .kept .0
 
 returns-2 : tie.Need-returns-2
 returns-2 c =
     let s = c .before .before .before .before .before .before .before .before .before .before .before .before .before .before .before .before .before .before .before .before .before .before .before .before .before .before .before .before .before .before .before .before .before .before .before .before .before .before .before .before .before in
     let w = within (s .args .t1) (s .pre) in
     let a = s .args in
-    triplet-made (a .t1) (length (now (a .out))) (a .az) (a .el) _ _ _ (c .before .before .before .before .before .before .before .before .before .before .before .before .before .before .before .before .before .before .before .before .before .before .before .before .before .before .before .before .before .before .before .before .before .before .before .before .before .before .before .dir-vec .ensures) (c .before .before .before .before .before .before .before .before .before .before .before .before .before .before .before .before .before .before .before .before .before .before .before .before .before .before .before .before .before .before .before .chosen .ensures) (c .before .before .before .before .before .before .before .before .before .before .before .before .before .before .before .before .before .before .before .before .before .before .before .before .before .before .before .before .before .before .before .before .before .before .before .before .before .clear .ensures) _ _ _ _ _
+    triplet-made (a .t1) (length (now (a .out))) (a .az) (a .el) _ _ _ (c .before .before .before .before .before .before .before .before .before .before .before .before .before .before .before .before .before .before .before .before .before .before .before .before .before .before .before .before .before .before .before .before .before .before .before .before .before .before .before .dir-vec .ensures) (c .before .before .before .before .before .before .before .before .before .before .before .before .before .before .before .before .before .before .before .before .before .before .before .before .before .before .before .before .before .before .before .chosen .ensures) (c .before .before .before .before .before .before .before .before .before .before .before .before .before .before .before .before .before .before .before .before .before .before .before .before .before .before .before .before .before .before .before .before .before .before .before .before .before .zero .ensures) _ _ _ _ _
     (c .before .before .before .before .before .before .before .before .before .before .before .before .before .before .before .before .before .before .before .before .before .before .before .before .before .before .before .before .before .before .if1 .left) (w .imag) (omega (arith, w .real, c .before .before .before .before .before .before .before .before .before .before .before .before .before .before .before .before .before .before .before .before)) (c .before .before .before .before .before .before .before .before .before .before .before .before .before .before .before .before .before .before .before .before .before .before .before .before .before .before .gains-at .ensures) (c .before .before .before .before .before .before .before .before .before .before .before .before .before .before .before .before .before .before .before .real-points .ensures) (c .before .before .before .before .before .before .before .before .before .before .before .before .before .imag-points .ensures)
     (c .before .before .before .before .before .before .share-out .ensures) (c .before .before .scale .ensures)
 
@@ -93,7 +93,7 @@ hull-row-spec =
     tie.close
     (tie.spec
     dir-vec-requires
-    clear-requires
+    zero-requires
     cast-n
     cast-nreal
     chosen-requires

@@ -4,7 +4,7 @@ use denote.Ref.{now}
 use lib.Ieee.{ofBits}
 use Rattle.hull_row.specs.Steps.{productsOf, firstGreatest}
 use Rattle.hull_row.proofs.Choice.{length-products}
-use Rattle.hull_row.proofs.Places.{front-filled, nearest-set, nearest-out, nearest-none}
+use Rattle.hull_row.proofs.Places.{front-filled, nearest-set, nearest-none}
 use borrow.Author.Needs.{needs}
 use native.Mathlib.Omega.{arith}
 use Rattle.hull_row.proofs.nearest.Statement.{statement}
@@ -19,17 +19,11 @@ slice-aggregate-first-greatest c = search needs
 first-greatest-requires : tie.Need-first-greatest-requires
 first-greatest-requires c κs = search needs
 
-shared-slice-read-o : tie.Need-shared-slice-read-o
-shared-slice-read-o c = search needs
+shared-slice-read-put : tie.Need-shared-slice-read-put
+shared-slice-read-put c = search needs
 
-cast-o : tie.Need-cast-o
-cast-o c = omega (arith, c .shared-slice-known3 .given (c .before .before .first-greatest .result))
-
-mul-out : tie.Need-mul-out
-mul-out c = search needs
-
-slice-write-out : tie.Need-slice-write-out
-slice-write-out c = search needs
+put-requires : tie.Need-put-requires
+put-requires c κs = search needs
 
 same-length : tie.Need-same-length
 same-length c = search needs
@@ -37,24 +31,15 @@ same-length c = search needs
 returns : tie.Need-returns
 unfolding ofBits
 returns c =
-    let s = c .before .before .before .before .before .before .before .before .before in
-    let f = c .before .before .before in
+    let s = c .before .before .before .before .before .before .before .before .before .before .before .before in
+    let f = c .before .before .before .before .before .before in
     let a = s .args in
     let l = productsOf (a .s) (now (a .dirs)) (a .n) in
     let e = f .first-greatest .ensures ∙ ap (firstGreatest 0) (front-filled 80 l _ (a .n) (f .before .before .products .ensures) (length-products (a .s) (now (a .dirs)) (a .n))) in
-    nearest-set (a .s) (now (a .slots)) (now (a .dirs)) (a .n) _ (now (a .out)) e (omega arith) (c .before .before .if1 .taken)
+    c .before .before .put .ensures ∙ nearest-set (a .s) (now (a .slots)) (now (a .dirs)) (a .n) _ (now (a .out)) e (omega arith) (c .before .before .before .before .before .if1 .taken)
 
 returns-2 : tie.Need-returns-2
 returns-2 c =
-    let s = c .before .before .before .before .before .before .before .before .before in
-    let f = c .before .before .before in
-    let a = s .args in
-    let l = productsOf (a .s) (now (a .dirs)) (a .n) in
-    let e = f .first-greatest .ensures ∙ ap (firstGreatest 0) (front-filled 80 l _ (a .n) (f .before .before .products .ensures) (length-products (a .s) (now (a .dirs)) (a .n))) in
-    nearest-out (a .s) (now (a .slots)) (now (a .dirs)) (a .n) _ (now (a .out)) e (omega arith) (c .before .before .if1 .taken) (c .if2 .left)
-
-returns-3 : tie.Need-returns-3
-returns-3 c =
     let s = c .before .before .before .before .before .before .before in
     let f = c .before in
     let a = s .args in
@@ -69,11 +54,8 @@ nearest-spec =
     products-requires
     slice-aggregate-first-greatest
     first-greatest-requires
-    shared-slice-read-o
-    cast-o
-    mul-out
-    slice-write-out
+    shared-slice-read-put
+    put-requires
     same-length
     returns
-    returns-2
-    returns-3)
+    returns-2)

@@ -2,19 +2,15 @@
 use mathlib.Core.Path.{ap, _∙_}
 use denote.Ref.{now}
 use lib.ListN.{getD}
-use lib.Ieee.{Float, ofBits}
+use lib.Ieee.{ofBits}
 use Rattle.planar_row.specs.PlanarRow.{addAt}
 use Rattle.hull_row.proofs.Places.{real-yes, real-no}
 use borrow.Author.Needs.{needs}
-use native.Mathlib.Omega.{arith}
 use Rattle.hull_row.proofs.to_real.Statement.{statement}
 use Rattle.hull_row.proofs.to_real.Tie as tie
 
 shared-slice-read-add-at : tie.Need-shared-slice-read-add-at
 shared-slice-read-add-at c = search needs
-
-cast-add-at : tie.Need-cast-add-at
-cast-add-at c = omega (arith, c .shared-slice-known2 .given (c .before .before .before .before .before .args .p))
 
 max32-requires : tie.Need-max32-requires
 max32-requires c κs = search needs
@@ -45,7 +41,6 @@ to-real-spec =
     tie.close
     (tie.spec
     shared-slice-read-add-at
-    cast-add-at
     max32-requires
     add-at-requires
     same-length
