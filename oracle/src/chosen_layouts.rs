@@ -421,16 +421,17 @@ fn values() -> Vec<Layout> {
     all
 }
 
+/// Layouts as houses have them; the ordinary ones come first.
+pub fn houses() -> Vec<Layout> {
+    [standards(), rings(), domes(), prisms(), halves()].concat()
+}
+
 /// Every chosen layout; the draws only shuffle solids.
 pub fn chosen(r: &mut Random) -> Vec<Layout> {
     [
         documents(),
         many_imaginary(),
-        standards(),
-        rings(),
-        domes(),
-        prisms(),
-        halves(),
+        houses(),
         planes(),
         solids(r),
         candidates(),

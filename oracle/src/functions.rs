@@ -1,6 +1,7 @@
 //! The functions of the case lists: names, widths of arguments and results, and answers.
 //! A value is held as its bits, in a u64.
 
+use crate::source::vbap_standins::normalized_lerp_gain;
 use crate::standins as s;
 
 #[derive(Clone, Copy, Debug, PartialEq, Eq)]
@@ -41,7 +42,7 @@ fn b(x: bool) -> Vec<u64> {
 }
 
 /// Every function, by the names of docs/CASES.md.
-pub const FUNCTIONS: [Function; 27] = [
+pub const FUNCTIONS: [Function; 28] = [
     Function { name: "widen", args: &[F32], results: &[F64], answer: |x| g(a(x[0]) as f64) },
     Function { name: "narrow", args: &[F64], results: &[F32], answer: |x| f(d(x[0]) as f32) },
     Function { name: "f32_from_u64", args: &[U64], results: &[F32], answer: |x| f(x[0] as f32) },
@@ -69,6 +70,12 @@ pub const FUNCTIONS: [Function; 27] = [
     Function { name: "sin_cos32", args: &[F32], results: &[F32, F32], answer: |x| [f(s::sin_cos32(a(x[0])).0), f(s::sin_cos32(a(x[0])).1)].concat() },
     Function { name: "atan64", args: &[F64], results: &[F64], answer: |x| g(s::atan64(d(x[0]))) },
     Function { name: "atan2", args: &[F64, F64], results: &[F64], answer: |x| g(s::atan2(d(x[0]), d(x[1]))) },
+    Function {
+        name: "normalized_lerp_gain",
+        args: &[F32, F32, F32, F32],
+        results: &[F32],
+        answer: |x| f(normalized_lerp_gain(a(x[0]), a(x[1]), a(x[2]), a(x[3]))),
+    },
 ];
 
 pub fn function(name: &str) -> &'static Function {

@@ -389,6 +389,45 @@ fn atan2_draw(r: &mut Random) -> Args {
     }
 }
 
+// ---- mixed gain
+
+/// Both ends of 0..1, halves, and what the clamps and the maximum meet.
+fn mixed_values() -> Vec<u64> {
+    let mut v: Vec<u64> = [0.0, -0.0, 1.0, -1.0, 0.5, f32::INFINITY, f32::NEG_INFINITY].iter().map(|x| f32_bits(*x)).collect();
+    // The least subnormal, and a quiet NaN.
+    v.extend([1, 0x7fc0_0000]);
+    v
+}
+
+fn mixed_chosen(r: &mut Random) -> Vec<Args> {
+    let few = crossed(&mixed_values());
+    let mut v: Vec<Args> = few.iter().flat_map(|a| few.iter().map(move |b| [&a[..], &b[..]].concat())).collect();
+    let mut unit = || f32_bits(r.unit() as f32);
+    // Origin: docs/RATIONALE.md, finding 7.
+    v.push([0.25, 0.75, f32::NAN, 0.0].map(f32_bits).to_vec());
+    for pair in crossed(&F32.specials()) {
+        v.push([&pair[..], &[unit(), unit()]].concat());
+        v.push([&[unit(), unit()], &pair[..]].concat());
+    }
+    // Either side of the clamps' ends, and of the middle.
+    let near: Vec<u64> = [0.5, 1.0].into_iter().flat_map(|x| F32.around(f32_bits(x), 3)).chain(F32.around(0, 2)).collect();
+    v.extend(crossed(&near).into_iter().map(|pair| [&[unit(), unit()], &pair[..]].concat()));
+    v
+}
+
+/// A gain, a dot product or a place: mostly from 0 to 1.
+fn mixed_argument(r: &mut Random) -> u64 {
+    match r.below(16) {
+        0 => F32.any(r),
+        1 => F32.bits(r),
+        2 => r.pick(&mixed_values()),
+        3 => f32_bits(r.within(-1.0, 2.0) as f32),
+        4 => f32_bits((1.0 - r.unit() * r.unit() * r.unit()) as f32),
+        5 => F32.with_exponent(r, 0, 127),
+        _ => f32_bits(r.unit() as f32),
+    }
+}
+
 // ---- by name
 
 /// The chosen arguments of a function.
@@ -411,6 +450,7 @@ pub fn chosen(name: &str, r: &mut Random) -> Vec<Args> {
         "sin32" | "cos32" | "sin_cos32" => sine_chosen(F32),
         "atan64" => atan_chosen(),
         "atan2" => atan2_chosen(),
+        "normalized_lerp_gain" => mixed_chosen(r),
         _ => panic!("no function of the name {name}"),
     }
 }
@@ -435,6 +475,7 @@ pub fn draw(name: &str, r: &mut Random) -> Args {
         "sin32" | "cos32" | "sin_cos32" => sine_draw(F32, r),
         "atan64" => atan_draw(r),
         "atan2" => atan2_draw(r),
+        "normalized_lerp_gain" => (0..4).map(|_| mixed_argument(r)).collect(),
         _ => panic!("no function of the name {name}"),
     }
 }

@@ -34,28 +34,48 @@ impl Layout {
     }
 
     fn line(&self, given: &Opened) -> String {
-        let mut words = Words(vec!["new".to_string()]);
+        let mut words = self.arguments("new");
+        words.count(given.refusal as usize);
+        words.count(given.imaginary);
+        words.panner(&given.panner);
+        words.line()
+    }
+
+    /// A name and the arguments of `new`.
+    pub fn arguments(&self, name: &str) -> Words {
+        let mut words = Words::new(name);
         words.count(self.numbers.len());
         words.floats(&self.numbers);
         words.count(self.lfe.len());
         self.lfe.iter().for_each(|&entry| words.count(entry));
-        words.count(given.refusal as usize);
-        words.count(given.imaginary);
-        words.panner(&given.panner);
-        words.0.join(" ") + "\n"
+        words
     }
 }
 
 /// Words of a line: floats as 8 digits, whole numbers without leading zeros.
-struct Words(Vec<String>);
+pub struct Words(Vec<String>);
 
 impl Words {
-    fn count(&mut self, n: usize) {
+    pub fn new(name: &str) -> Words {
+        Words(vec![name.to_string()])
+    }
+
+    pub fn line(&self) -> String {
+        self.0.join(" ") + "\n"
+    }
+
+    pub fn count(&mut self, n: usize) {
         self.0.push(format!("{n:x}"));
     }
 
-    fn floats(&mut self, values: &[f32]) {
+    pub fn floats(&mut self, values: &[f32]) {
         self.0.extend(values.iter().map(|x| format!("{:08x}", x.to_bits())));
+    }
+
+    /// Expected floats: `nan` for a NaN.
+    pub fn expected(&mut self, values: &[f32]) {
+        let word = |x: &f32| if x.is_nan() { "nan".to_string() } else { format!("{:08x}", x.to_bits()) };
+        self.0.extend(values.iter().map(word));
     }
 
     /// As many bytes as a count says.
@@ -70,7 +90,7 @@ impl Words {
     }
 
     /// The used places of a record, each list behind its count.
-    fn panner(&mut self, p: &Panner) {
+    pub fn panner(&mut self, p: &Panner) {
         self.count(p.num_outputs);
         self.bytes(&[p.kind as u8, p.mono]);
         self.count(p.num_pairs);

@@ -5,13 +5,17 @@ use crate::functions::function;
 use crate::generators::{chosen, draw, left_out};
 use crate::layout_line::{Layout, Tally};
 use crate::random::Random;
+use crate::ramps;
 use crate::random_layouts;
+use crate::row_lists;
 use std::collections::HashSet;
 
-/// What a list's cases are: calls of functions, or layouts for `new`.
+/// What a list's cases are: calls of functions, layouts for `new`, or lines that a function of
+/// their own makes, with what stands behind the seed.
 pub enum Cases {
     Functions(&'static [&'static str]),
     Layouts(fn(&mut Random) -> Vec<Layout>),
+    Lines(fn(&mut Random) -> (String, String)),
 }
 
 /// A stored list, its place below the repository's root, its seed and its cases.
@@ -28,7 +32,7 @@ pub const CASES: usize = 20_000;
 pub const MAX_BYTES: usize = 3_000_000;
 
 /// Every stored list. The seeds are arbitrary.
-pub const LISTS: [List; 11] = [
+pub const LISTS: [List; 14] = [
     List {
         name: "widths",
         path: "crates/replay_widths/stdin",
@@ -76,10 +80,18 @@ pub const LISTS: [List; 11] = [
         seed: 0x10b,
         cases: Cases::Layouts(random_layouts::drawn),
     },
+    List { name: "ramps", path: "crates/replay_ramps/stdin", seed: 0x10c, cases: Cases::Lines(ramps::ramps) },
+    List { name: "rows", path: "crates/replay_rows/stdin", seed: 0x10d, cases: Cases::Lines(row_lists::first) },
+    List { name: "rows_2", path: "crates/replay_rows_2/stdin", seed: 0x10e, cases: Cases::Lines(row_lists::second) },
 ];
 
+/// A list by its name.
+pub fn list(name: &str) -> &'static List {
+    LISTS.iter().find(|l| l.name == name).expect("a list's name")
+}
+
 /// Distinct arguments of one function: the chosen ones, then draws up to `count`.
-fn arguments(name: &str, count: usize, r: &mut Random) -> Vec<Vec<u64>> {
+pub fn arguments(name: &str, count: usize, r: &mut Random) -> Vec<Vec<u64>> {
     let mut seen = HashSet::new();
     let mut kept = Vec::new();
     let mut keep = |args: Vec<u64>, kept: &mut Vec<Vec<u64>>| {
@@ -131,7 +143,7 @@ impl List {
     /// The layouts of a list of layouts, in the order of its lines.
     pub fn layouts(&self) -> Vec<Layout> {
         match self.cases {
-            Cases::Functions(_) => vec![],
+            Cases::Functions(_) | Cases::Lines(_) => vec![],
             Cases::Layouts(make) => distinct(make(&mut Random::new(self.seed))),
         }
     }
@@ -141,6 +153,7 @@ impl List {
         let (what, cases) = match self.cases {
             Cases::Functions(functions) => function_cases(functions, &mut Random::new(self.seed)),
             Cases::Layouts(_) => layout_cases(self.layouts()),
+            Cases::Lines(make) => make(&mut Random::new(self.seed)),
         };
         let text = format!("# oracle cases {}: seed {:x}; {what}\n{cases}", self.name, self.seed);
         assert!(text.len() < MAX_BYTES, "{}: {} bytes", self.name, text.len());
