@@ -2,6 +2,7 @@
 //! stand-ins', and the platform library's. Each time is the least of several passes.
 
 mod boundary;
+mod layouts;
 
 use std::hint::black_box;
 use std::time::Instant;
@@ -190,4 +191,5 @@ fn main() {
         sines(count, "sin, cos to 1e6", 1e6);
         angles(count);
     }
+    layouts::table();
 }

@@ -1,0 +1,4 @@
+// Replays the cases of drawn layouts.
+fn main() {
+    replay_layout::run();
+}
