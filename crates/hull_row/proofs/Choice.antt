@@ -13,7 +13,7 @@ use lib.Ieee.{Float, nan, inf, binary32, lt}
 use Rattle.lists.specs.Lists.{range, part}
 use Rattle.lists.proofs.Ranges.{range-none, length-map-range, getD-map-range, map-range-snoc}
 use Rattle.lists.proofs.Collect.{foldl-snoc, map-snoc}
-use Rattle.vector.specs.Vector.{Vector, Points, dotIn}
+use Rattle.vector.specs.Vector.{Vector, dotIn}
 use Rattle.hull.specs.Triplets.{Triplet}
 use Rattle.panner.specs.declared.VbapPanner.{VbapPanner}
 use Rattle.panner.specs.Panner.{tripletAt}

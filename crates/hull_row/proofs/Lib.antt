@@ -4,3 +4,4 @@ pub mod Places
 pub mod Row
 pub mod FloatOrder
 pub mod Meaning
+pub mod Found

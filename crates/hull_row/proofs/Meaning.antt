@@ -1,12 +1,11 @@
 -- The meaning of the choice: what holds of the triplets passed holds again with one more, above the chosen one or not. Assumes nothing.
-use Prim.Native.Nat.{ℕ, zero, suc, _<_}
+use Prim.Native.Nat.{zero, suc}
 use mathlib.Core.Path.{_≡_, refl, sym, ap, _∙_, subst}
-use mathlib.Core.Bool.{Bool, true, false, _&&_, _||_, not, cond}
+use mathlib.Core.Bool.{Bool, true, false, _||_, not, cond}
 use mathlib.Core.List.{List, [], _∷_, _++_, map, foldl, append-assoc, append-nil}
 use mathlib.Core.Option.{Option, none, some}
 use native.Mathlib.Nat.{not-suc-le-zero, le-of-suc-le-suc}
-use lib.ListN.{getD}
-use lib.Ieee.{Float, nan, inf, isNan, lt}
+use lib.Ieee.{Float, inf, isNan, lt}
 use Rattle.lists.specs.Lists.{every}
 use Rattle.lists.proofs.Tests.{every-snoc}
 use Rattle.vector.specs.Vector.{Vector}
@@ -14,7 +13,7 @@ use Rattle.hull.specs.Triplets.{Triplet}
 use Rattle.panner.proofs.Bounds.{every-more}
 use Rattle.hull_row.specs.HullRow.{Aimed, aimed, better, bestOf}
 use Rattle.hull_row.specs.Meaning.{leastGain, Chosen, BestChosen, NoneAbove, NoneChosen, GainsAreProducts}
-use Rattle.hull_row.proofs.FloatOrder.{lt-self, lt-over, not-above, above-low}
+use Rattle.hull_row.proofs.FloatOrder.{lt-self, lt-over, not-above}
 
 is-false : (b : Bool) → not b ≡ true → b ≡ false
 is-false true e = cc

@@ -2,11 +2,11 @@
 use Prim.Native.Nat.{ℕ, zero, suc, _+_, _-_, _*_, _≤_, _<_, min}
 use mathlib.Core.Bool.{Bool, true, false, _&&_, _||_, not}
 use mathlib.Core.Path.{_≡_, refl, sym, ap, _∙_, subst}
-use mathlib.Core.List.{List, [], _∷_, _++_, map, foldl, append-nil}
+use mathlib.Core.List.{List, [], _∷_, _++_, map, append-nil}
 use native.Mathlib.Nat.{not-suc-le-zero, le-of-suc-le-suc, add-zero}
 use native.Mathlib.Numerals.{add-one}
 use native.Mathlib.Omega.{arith}
-use lib.ListN.{length, getD, set, take, drop, replicate, length-append, length-map, length-take, length-drop, length-set, drop-of-length-le, List·getD-eq-default}
+use lib.ListN.{length, getD, set, take, drop, replicate, length-map, drop-of-length-le, List·getD-eq-default}
 use lib.Seq.{drop-cons, take-suc, take-all, length-take-le, set-at, getD-at, getD-take, append-snoc, set-out}
 use lib.Dec.{T, eqb}
 use lib.Ieee.{Float, nan, binary32, add, mul, div, lt, ne}

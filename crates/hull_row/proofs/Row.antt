@@ -1,5 +1,5 @@
 -- `hullRow` of a record is what the steps make, on its flat arrays: where no triplet is chosen the nearest point's slot, else the triplet's gains in their slots. Assumes nothing.
-use Prim.Native.Nat.{ℕ, _+_, _*_, _≤_, _<_, min}
+use Prim.Native.Nat.{ℕ, _≤_, _<_, min}
 use mathlib.Core.Path.{_≡_, refl, sym, ap, _∙_, subst}
 use mathlib.Core.Bool.{Bool, true, false, cond}
 use mathlib.Core.List.{List, [], map, foldl}
@@ -8,7 +8,7 @@ use lib.Dec.{ltb}
 use lib.ListN.{length, getD, take, replicate, length-replicate}
 use lib.Seq.{length-take-le}
 use lib.Ieee.{Float, nan}
-use Rattle.lists.specs.Lists.{range, part}
+use Rattle.lists.specs.Lists.{range}
 use Rattle.lists.proofs.Ranges.{length-map-range, getD-map-range}
 use Rattle.ieee.specs.Values.{+0}
 use Rattle.vector.specs.Vector.{Vector, dirVecOf}

@@ -1,10 +1,11 @@
 -- Document 01, "A row" (Hull); source lines 513 to 581: the steps of a row, each told of the record's flat arrays that it reads. That they make up `hullRow` is shown in proofs/. Assumes nothing.
-use Prim.Native.Nat.{ℕ, _+_, _-_, _*_, min}
-use mathlib.Core.Bool.{true, _&&_, not, cond}
+use Prim.Native.Nat.{ℕ, _+_, _-_, _*_, _≤_, _<_, min}
+use mathlib.Core.Path.{_≡_}
+use mathlib.Core.Bool.{Bool, true, false, _&&_, _||_, not, cond}
 use mathlib.Core.List.{List, [], _∷_, map, foldl}
 use lib.Dec.{ltb}
 use lib.ListN.{length, getD, set, take, replicate}
-use lib.Ieee.{Float, nan, inf, binary32, add, mul, div, lt}
+use lib.Ieee.{Float, nan, inf, binary32, add, mul, div, lt, ne}
 use Rattle.lists.specs.Lists.{range, isEmpty, part}
 use Rattle.ieee.specs.Values.{+0, 1·0}
 use Rattle.ieee.specs.Order.{maxOf, minOf, squareOf}
@@ -45,6 +46,26 @@ greatestTo d l i = foldl (above l) (record { number = d; product = inf true }) (
 
 unfoldable pub firstGreatest : ℕ → List Float → ℕ
 firstGreatest d l = greatestTo d l (length l) .number
+
+-- what the check of a guess g tells: a number is passed where it is below g or a NaN; which stands first that is not; and none is above g
+unfoldable pub passed : Float → Float → Bool
+passed g x = lt x g || ne x x
+
+unfoldable pub eightPassed : Float → List Float → ℕ → Bool
+eightPassed g l t =
+    passed g (getD l t nan) && passed g (getD l (t + 1) nan) && passed g (getD l (t + 2) nan) && passed g (getD l (t + 3) nan)
+    && passed g (getD l (t + 4) nan) && passed g (getD l (t + 5) nan) && passed g (getD l (t + 6) nan) && passed g (getD l (t + 7) nan)
+
+abbrev pub AllPassed : Float → List Float → ℕ → Type 0
+AllPassed g l n = (j : ℕ) → j < n → passed g (getD l j nan) ≡ true
+
+pub record FirstKept (g : Float) (l : List Float) (n r : ℕ) : Type 0 where
+  pub within : r ≤ n
+  pub before : AllPassed g l r
+  pub kept : r < n → passed g (getD l r nan) ≡ false
+
+abbrev pub NoneOver : Float → List Float → ℕ → Type 0
+NoneOver g l n = (j : ℕ) → j < n → lt g (getD l j nan) ≡ false
 
 -- 1 in the slot of the nearest of the first n points; where there is none, in no place
 unfoldable pub nearestIn : Vector → List ℕ → List Float → ℕ → List Float → List Float

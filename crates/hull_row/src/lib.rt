@@ -1,19 +1,18 @@
 // A row of a hull: the triplet whose least gain is greatest, its gains in their slots, scaled to power 1.
 ghost use mathlib.Core.Path.{_≡_};
 ghost use mathlib.Core.Bool.{true, false};
-ghost use Prim.Native.Nat.{_≤_, _<_, min};
+ghost use Prim.Native.Nat.{_+_, _≤_, _<_, min};
 ghost use lib.Dec.{leb};
-ghost use lib.ListN.{length, getD, set, take, replicate};
-ghost use lib.Ieee.{nan, binary32};
-ghost use Rattle.lists.specs.Lists.{every, filled, part};
+ghost use lib.ListN.{length, take};
+ghost use Rattle.lists.specs.Lists.{every, filled};
 ghost use Rattle.ieee.specs.Values.{+0};
 ghost use Rattle.ieee.specs.Order.{minOf};
-ghost use Rattle.vector.specs.Vector.{dotIn, dirVecOf};
+ghost use Rattle.vector.specs.Vector.{dirVecOf};
 ghost use Rattle.panner.specs.declared.Kind.the-variants.{Hull};
 ghost use Rattle.panner.specs.Panner.{hullIn, shapeIn};
 ghost use Rattle.panner.specs.Malformed.{countsOver};
 ghost use Rattle.hull_row.specs.HullRow.{hullRow, scaled};
-ghost use Rattle.hull_row.specs.Steps.{gainAt, gainsAt, leastAt, leastsOf, productsOf, firstGreatest, nearestIn, toReal, toImag, realPoints, imagPoints, addEach, sharedBy, sharedOut, powerOf, timesOf};
+ghost use Rattle.hull_row.specs.Steps.{gainAt, gainsAt, leastAt, leastsOf, productsOf, firstGreatest, passed, eightPassed, AllPassed, FirstKept, NoneOver, nearestIn, toReal, toImag, realPoints, imagPoints, addEach, sharedBy, sharedOut, powerOf, timesOf};
 use panner::VbapPanner;
 
 // Origin: vbap.rs line 574; a row whose power is not above it is not scaled.
@@ -77,8 +76,8 @@ fn leasts(inv: &[f32], n: usize, s: [f32; 3]) -> [f32; 80]
     m
 }
 
-// The place of the greatest of the first n numbers, the earlier of equals; none where no number is above -infinity.
-fn first_greatest(l: &[f32], n: usize, none: usize) -> usize
+// The place of the greatest of the first n numbers, the earlier of equals; none where no number is above -infinity. One number after the other.
+fn first_by_turns(l: &[f32], n: usize, none: usize) -> usize
     requires { ⌜ n ≤ length (now l) ⌝ }
     ensures { λ r. ⌜ r ≡ firstGreatest none (take n (now (l .entry))) ⌝ }
 {
@@ -93,6 +92,130 @@ fn first_greatest(l: &[f32], n: usize, none: usize) -> usize
         i += 1;
     }
     best
+}
+
+// The greater of two floats; a NaN as b is passed over.
+fn greater(a: f32, b: f32) -> f32 {
+    if b > a { b } else { a }
+}
+
+// A guess at the greatest of the first n numbers, eight at a time. `first_greatest` checks it, so it promises nothing.
+fn guess(l: &[f32], n: usize) -> f32
+    requires { ⌜ n ≤ length (now l) ⌝ }
+{
+    let mut b0: f32 = -1.0 / 0.0;
+    let mut b1: f32 = b0;
+    let mut b2: f32 = b0;
+    let mut b3: f32 = b0;
+    let mut b4: f32 = b0;
+    let mut b5: f32 = b0;
+    let mut b6: f32 = b0;
+    let mut b7: f32 = b0;
+    let mut t: usize = 0;
+    while n - t >= 8 {
+        b0 = greater(b0, l[t]);
+        b1 = greater(b1, l[t + 1]);
+        b2 = greater(b2, l[t + 2]);
+        b3 = greater(b3, l[t + 3]);
+        b4 = greater(b4, l[t + 4]);
+        b5 = greater(b5, l[t + 5]);
+        b6 = greater(b6, l[t + 6]);
+        b7 = greater(b7, l[t + 7]);
+        t += 8;
+    }
+    while t < n {
+        b0 = greater(b0, l[t]);
+        t += 1;
+    }
+    greater(
+        greater(greater(b0, b1), greater(b2, b3)),
+        greater(greater(b4, b5), greater(b6, b7)),
+    )
+}
+
+// Whether some of the first n numbers is above g. Without an exit, so that many are compared at once.
+fn any_above(l: &[f32], n: usize, g: f32) -> bool
+    requires { ⌜ n ≤ length (now l) ⌝ }
+    ensures { λ r. ⌜ (r ≡ false → NoneOver g (now (l .entry)) n) ⌝ }
+{
+    let mut up = false;
+    let mut i: usize = 0;
+    while i < n {
+        up = up | (l[i] > g);
+        i += 1;
+    }
+    up
+}
+
+// Whether x is below g or a NaN.
+fn is_passed(x: f32, g: f32) -> bool
+    ensures { λ r. ⌜ r ≡ passed g x ⌝ }
+{
+    (x < g) | (x != x)
+}
+
+// The same of eight numbers from place t on.
+fn eight_passed(l: &[f32], t: usize, g: f32) -> bool
+    requires { ⌜ t + 8 ≤ length (now l) ⌝ }
+    ensures { λ r. ⌜ r ≡ eightPassed g (now (l .entry)) t ⌝ }
+{
+    is_passed(l[t], g)
+        & is_passed(l[t + 1], g)
+        & is_passed(l[t + 2], g)
+        & is_passed(l[t + 3], g)
+        & is_passed(l[t + 4], g)
+        & is_passed(l[t + 5], g)
+        & is_passed(l[t + 6], g)
+        & is_passed(l[t + 7], g)
+}
+
+// A place up to which all numbers are passed, found eight at a time.
+fn skipped(l: &[f32], n: usize, g: f32) -> usize
+    requires { ⌜ n ≤ length (now l) ⌝ }
+    ensures { λ r. ⌜ (r ≤ n) × AllPassed g (now (l .entry)) r ⌝ }
+{
+    let mut t: usize = 0;
+    while n - t >= 8 {
+        if !eight_passed(l, t, g) {
+            return t;
+        }
+        t += 8;
+    }
+    t
+}
+
+// The first of the first n numbers that is not passed; n where all are.
+fn first_kept(l: &[f32], n: usize, g: f32) -> usize
+    requires { ⌜ n ≤ length (now l) ⌝ }
+    ensures { λ r. ⌜ FirstKept g (now (l .entry)) n r ⌝ }
+{
+    let mut t: usize = skipped(l, n, g);
+    while t < n {
+        if !is_passed(l[t], g) {
+            return t;
+        }
+        t += 1;
+    }
+    t
+}
+
+// The same as `first_by_turns`, by a guess that is checked: no number is above it, and the first that is not below it is found.
+fn first_greatest(l: &[f32], n: usize, none: usize) -> usize
+    requires { ⌜ n ≤ length (now l) ⌝ }
+    ensures { λ r. ⌜ r ≡ firstGreatest none (take n (now (l .entry))) ⌝ }
+{
+    let g = guess(l, n);
+    let i = first_kept(l, n, g);
+    if n <= i {
+        return first_by_turns(l, n, none);
+    }
+    if g > -1.0 / 0.0 {
+        if any_above(l, n, g) {
+            return first_by_turns(l, n, none);
+        }
+        return i;
+    }
+    first_by_turns(l, n, none)
 }
 
 // The number of the triplet whose least gain is greatest; n where there is none.
@@ -203,10 +326,10 @@ fn power(out: &[f32]) -> f32
     ensures { λ r. ⌜ r ≡ powerOf (now (out .entry)) ⌝ }
 {
     let mut p: f32 = 0.0;
-    let mut i: usize = 0;
-    while i < out.len() {
-        p = p + out[i] * out[i];
-        i += 1;
+    let mut k: usize = 0;
+    while k < out.len() {
+        p = p + out[k] * out[k];
+        k += 1;
     }
     p
 }

@@ -5,3 +5,5 @@ pub mod PlanarRows
 pub mod Powers
 pub mod HullRows
 pub mod Rows
+pub mod Written
+pub mod Silent

@@ -171,9 +171,12 @@ each-first P f (a ∷ l) d e h = by (f a) (each-first P f l d (e .1) h)
     by false k = k
 
 -- the pair that is chosen is one of them
-pub chosen-sound : (az : Float) (q : PlanarPair) (l : List PlanarPair) (slots : List ℕ) → Each (SoundPair slots) (q ∷ l) → SoundPair slots (chosen az (q ∷ l))
+pub chosen-each : (P : PlanarPair → Type 0) (az : Float) (q : PlanarPair) (l : List PlanarPair) → Each P (q ∷ l) → P (chosen az (q ∷ l))
 unfolding chosen last
-chosen-sound az q l slots e = each-first (SoundPair slots) (contains az) (q ∷ l) (last l q) e (each-last (SoundPair slots) l q (e .0) (e .1))
+chosen-each P az q l e = each-first P (contains az) (q ∷ l) (last l q) e (each-last P l q (e .0) (e .1))
+
+pub chosen-sound : (az : Float) (q : PlanarPair) (l : List PlanarPair) (slots : List ℕ) → Each (SoundPair slots) (q ∷ l) → SoundPair slots (chosen az (q ∷ l))
+chosen-sound az q l slots e = chosen-each (SoundPair slots) az q l e
 
 pub planar-row : (n : ℕ) (az el : Float) (pairs : List PlanarPair) (slots : List ℕ) → T (finite az) → T (fits binary32 az) → T (finite el) → T (fits binary32 el) → Each (SoundPair slots) pairs → length slots ≤ 40 → Row B40 (planarRow n az el pairs slots)
 unfolding planarRow isEmpty

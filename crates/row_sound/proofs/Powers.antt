@@ -1,103 +1,99 @@
--- A row is scaled by a power that is above 1e-12 or infinite: one over its root is at most 2 ^ 20, or 0. Assumes nothing.
-use mathlib.Core.Path.{_≡_, refl, sym, ap, _∙_, subst}
-use mathlib.Core.Logic.{_⊎_, inl, inr}
-use Prim.Native.Nat.{ℕ, _+_, _*_, _^_, _≤_, _<_}
-use native.Mathlib.Nat.{le-refl, le-trans, le-of-lt, mul-le-mul-right, eq-zero-or-pos, not-suc-le-zero, not-le-of-lt}
-use mathlib.Core.Bool.{Bool, true, false, cond}
+-- A row is scaled by a power that is above 1e-12 or infinite: one over its root is from 0 to 2 ^ 21, so gains stay finite, and +0 stays +0. Assumes nothing.
+use mathlib.Core.Path.{_≡_, refl, ap, _∙_}
+use Prim.Native.Nat.{ℕ, zero, suc, _*_, _^_, _≤_, zero-le}
+use native.Mathlib.Nat.{le-refl, le-trans, lt-of-lt-of-le, mul-le-mul-right, zero-mul}
+use mathlib.Core.Bool.{Bool, true, false, cond, _||_}
 use mathlib.Core.List.{List, [], _∷_, map, foldl}
-use lib.Dec.{T, lit≤, lit<, ltb, ltb→lt}
-use lib.Ieee.{Float, nan, inf, fin, binary32, low, units, odd, round, add, mul, div, lt, fits, ofBits}
-use lib.Ieee.Fits.{round-is, round-fits, mul-fits}
-use lib.Ieee.Order.{drop, kept}
-use lib.Ieee.Scale.{grid, overflow}
+use lib.Dec.{T, lit≤, lit<}
+use lib.ListN.{length, getD, length-map}
+use lib.Ieee.{Float, nan, inf, fin, binary32, span, climb, size, odd, units, round, add, mul, div, lt, eq, le, fits, ofBits}
+use lib.Ieee.Fits.{add-fits}
+use lib.Ieee.Scale.{finite}
 use Rattle.ieee.specs.Values.{+0, 1·0}
 use Rattle.ieee.specs.Order.{squareOf}
 use Rattle.ieee.specs.Root.{sqrtOf}
-use Rattle.ieee.proofs.Grid.{le-or-lt}
 use Rattle.planar_row.specs.PlanarRow.{leastPower}
 use Rattle.hull_row.specs.HullRow.{scaled}
-use Rattle.bounds.proofs.Units.{Val, unitsOf, round-Val, add-round}
+use Rattle.bounds.proofs.Units.{unitsOf, mul-round}
 use Rattle.bounds.proofs.Held.{held}
-use Rattle.bounds.proofs.Size.{Mag, most-of, most-sign, val-mag, mag-mul, mag-div, times-most, unlike-self}
-use Rattle.bounds.proofs.Compare.{lt-val}
+use Rattle.bounds.proofs.Size.{Mag, Most, mag-of, mag-max, mag-mul, div-most}
+use Rattle.bounds.proofs.Compare.{above-least}
 use Rattle.bounds.proofs.Root.{sqrt-val}
-use Rattle.bounds.proofs.Order.{zero-mag}
+use Rattle.bounds.proofs.Order.{zero-val}
 use Rattle.sound.proofs.Each.{each-imply, each-map}
 use Rattle.row_sound.proofs.Places.{Row, row-more}
 use Rattle.row_sound.proofs.Pairs.{L}
-
--- from 0 on, or +∞
-pub record Finite (x : Float) : Type 0 where
-  pub fit : T (fits binary32 x)
-  pub X : ℕ
-  pub val : Val binary32 x false X
-
-abbrev pub Power : Float → Type 0
-Power x = Finite x ⊎ (x ≡ inf false)
-
-too-large : (q k : ℕ) → overflow binary32 ≤ q * 2 ^ k → units binary32 false q k ≡ inf false
-unfolding units
-too-large q k h = go (ltb (q * 2 ^ k) (overflow binary32)) (ltb→lt (q * 2 ^ k) (overflow binary32))
-  where
-    go : (b : Bool) → (T b → q * 2 ^ k < overflow binary32) → cond b (odd 25 false q k (low binary32)) (inf false) ≡ inf false
-    go true g = absurd (not-le-of-lt (g tt) h)
-    go false g = refl
-
-round-power : (num den : ℕ) → Power (round binary32 false num den)
-round-power num den = elim (le-or-lt (overflow binary32) (grid binary32 num den)) [
-  | inl h ↦ inr (round-is binary32 false num den ∙ too-large (kept 24 (num * 2 ^ 149) den) (drop 24 (num * 2 ^ 149) den) h)
-  | inr h ↦ inl (record { fit = round-fits binary32 false num den; X = grid binary32 num den; val = round-Val binary32 false num den h })
-]
-
-power-add : {x y : Float} → Power x → Finite y → Power (add binary32 x y)
-power-add {x} {y} (inl h) k = subst Power (sym (add-round (h .val) (k .val))) (round-power (h .X + k .X) (2 ^ 149))
-power-add {x} {y} (inr e) k = inr (ap (λ (z : Float). add binary32 z y) e ∙ stays y (k .val))
-  where
-    stays : (y : Float) {Y : ℕ} → Val binary32 y false Y → add binary32 (inf false) y ≡ inf false
-    stays nan v = absurd (v .has)
-    stays (inf t) v = absurd (v .has)
-    stays (fin t n d) v = unfold add in refl
 
 -- the gains of a hull row, before they are scaled
 abbrev pub B60 : ℕ
 B60 = 2 ^ 60 * L
 
-square-finite : {g : Float} → Mag binary32 g B60 → Finite (squareOf g)
-unfolding squareOf
-square-finite {g} m =
-    let q = most-sign (unlike-self (m .s)) (times-most (2 ^ 120 * L) (most-of m) (most-of m) (held binary32 1 269 (lit≤ tt)) (lit< tt) (lit≤ tt)) in
-    record { fit = mul-fits binary32 g g; X = q .X; val = q .val }
-
-power-of : (p : Float) (row : List Float) → Power p → Row B60 row → Power (foldl (λ q g. add binary32 q (squareOf g)) p row)
-power-of p [] h r = h
-power-of p (g ∷ l) h r = power-of (add binary32 p (squareOf g)) l (power-add h (square-finite (r .0))) (r .1)
+-- the sum of squares is a value of 32 bits
+power-fits : (p : Float) (row : List Float) → T (fits binary32 p) → T (fits binary32 (foldl (λ q g. add binary32 q (squareOf g)) p row))
+power-fits p [] h = h
+power-fits p (g ∷ l) h = power-fits (add binary32 p (squareOf g)) l (add-fits binary32 p (squareOf g))
 
 -- ---- one over the root
 
-inverse-root : {p : Float} → Power p → T (lt leastPower p) → Mag binary32 (div binary32 1·0 (sqrtOf binary32 p)) (2 ^ 21 * L)
-unfolding ofBits
-inverse-root {p} (inl h) above = elim (eq-zero-or-pos (h .X)) [
-  | inl e ↦ absurd (not-suc-le-zero (lt-val {X = unitsOf binary32 leastPower} (record { has = (refl, refl) }) (subst (λ (S : ℕ). Val binary32 p false S) e (h .val)) above))
-  | inr g ↦
-      let r = sqrt-val (h .fit) (h .val) g in
-      let big : unitsOf binary32 leastPower ≤ h .X = le-of-lt (lt-val {X = unitsOf binary32 leastPower} (record { has = (refl, refl) }) (h .val) above) in
-      let R-ge : 2 ^ 129 ≤ r .R = r .least (2 ^ 129) (held binary32 1 129 (lit≤ tt)) (lit< tt) (le-trans (lit≤ tt) (mul-le-mul-right L big)) in
-      mag-div (2 ^ 21 * L) (2 ^ 129) (val-mag {X = L} L (record { has = (refl, refl) }) (le-refl L)) (r .val) R-ge (lit< tt) (held binary32 1 170 (lit≤ tt)) (lit< tt) (lit≤ tt)
-]
-inverse-root {p} (inr e) above = subst (λ (z : Float). Mag binary32 (div binary32 1·0 (sqrtOf binary32 z)) (2 ^ 21 * L)) (sym e) none
+or-left : (a b : Bool) → T a → T (a || b)
+or-left true b h = tt
+or-left false b h = absurd h
+
+finite-root : (p : Float) → T (finite p) → T (fits binary32 p) → T (lt leastPower p) → Most binary32 (div binary32 1·0 (sqrtOf binary32 p)) false (2 ^ 21 * L)
+unfolding ofBits le
+finite-root p ok fit above =
+    let b = above-least {y = leastPower} {Y = unitsOf binary32 leastPower} (mag-max binary32 p ok fit) (record { has = (refl, refl) }) (lit< tt) (or-left (lt leastPower p) (eq leastPower p) above) in
+    let r = sqrt-val fit (b .val) (lt-of-lt-of-le (lit< tt) (b .least)) in
+    let R-ge : 2 ^ 129 ≤ r .R = r .least (2 ^ 129) (held binary32 1 129 (lit≤ tt)) (lit< tt) (le-trans (lit≤ tt) (mul-le-mul-right L (b .least))) in
+    let one : Most binary32 1·0 false L = record { X = L; val = record { has = (refl, refl) }; most = le-refl L } in
+    div-most (2 ^ 21 * L) (2 ^ 129) one (r .val) R-ge (lit< tt) (held binary32 1 170 (lit≤ tt)) (lit< tt) (lit≤ tt)
+
+inverse-root : (p : Float) → T (fits binary32 p) → T (lt leastPower p) → Most binary32 (div binary32 1·0 (sqrtOf binary32 p)) false (2 ^ 21 * L)
+unfolding ofBits lt
+inverse-root nan fit above = absurd above
+inverse-root (inf true) fit above = absurd above
+inverse-root (inf false) fit above = unfold div sqrtOf in record { X = 0; val = zero-val; most = zero-le }
+inverse-root (fin s m e) fit above = finite-root (fin s m e) tt fit above
+
+-- ---- a scaled row is the row, or the row times a number from 0 to 2 ^ 21
+
+scaled-by : (P : List Float → Type 0) (row : List Float) → P row → ((x : Float) → Most binary32 x false (2 ^ 21 * L) → P (map (λ g. mul binary32 g x) row)) → P (scaled row)
+unfolding scaled fits
+scaled-by P row h k = by (lt leastPower power) (inverse-root power (power-fits +0 row tt))
   where
-    none : Mag binary32 (div binary32 1·0 (sqrtOf binary32 (inf false))) (2 ^ 21 * L)
-    none = unfold div sqrtOf in zero-mag
+    power : Float
+    power = foldl (λ p g. add binary32 p (squareOf g)) +0 row
+
+    inv : Float
+    inv = div binary32 1·0 (sqrtOf binary32 power)
+
+    by : (b : Bool) → (T b → Most binary32 inv false (2 ^ 21 * L)) → P (cond b (map (λ g. mul binary32 g inv) row) row)
+    by true m = k inv (m tt)
+    by false m = h
 
 -- finite throughout
 pub scaled-row : (row : List Float) → Row B60 row → Row (2 ^ 82 * L) (scaled row)
-unfolding scaled fits
-scaled-row row h = by (lt leastPower (foldl (λ p g. add binary32 p (squareOf g)) +0 row)) (inverse-root (power-of +0 row (inl (record { fit = tt; X = 0; val = record { has = (refl, refl) } })) h))
-  where
-    by : (b : Bool) → (T b → Mag binary32 (div binary32 1·0 (sqrtOf binary32 (foldl (λ p g. add binary32 p (squareOf g)) +0 row))) (2 ^ 21 * L))
-        → Row (2 ^ 82 * L) (cond b (map (λ g. mul binary32 g (div binary32 1·0 (sqrtOf binary32 (foldl (λ p g. add binary32 p (squareOf g)) +0 row)))) row) row)
-    by true k =
-        each-map (λ g. Mag binary32 g (2 ^ 82 * L)) (λ g. mul binary32 g (div binary32 1·0 (sqrtOf binary32 (foldl (λ p g. add binary32 p (squareOf g)) +0 row)))) row
-        (each-imply (λ g. Mag binary32 g B60) (λ g. Mag binary32 (mul binary32 g (div binary32 1·0 (sqrtOf binary32 (foldl (λ p g. add binary32 p (squareOf g)) +0 row)))) (2 ^ 82 * L))
-        (λ g m. mag-mul (2 ^ 82 * L) m (k tt) (held binary32 1 231 (lit≤ tt)) (lit< tt) (lit≤ tt)) row h)
-    by false k = row-more B60 (2 ^ 82 * L) (lit≤ tt) row h
+scaled-row row h =
+    scaled-by (Row (2 ^ 82 * L)) row (row-more B60 (2 ^ 82 * L) (lit≤ tt) row h)
+    (λ x k. each-map (λ g. Mag binary32 g (2 ^ 82 * L)) (λ g. mul binary32 g x) row
+    (each-imply (λ g. Mag binary32 g B60) (λ g. Mag binary32 (mul binary32 g x) (2 ^ 82 * L)) (λ g m. mag-mul (2 ^ 82 * L) m (mag-of k) (held binary32 1 231 (lit≤ tt)) (lit< tt) (lit≤ tt)) row h))
+
+-- as long as it was
+pub scaled-length : (n : ℕ) (row : List Float) → length row ≡ n → length (scaled row) ≡ n
+scaled-length n row e = scaled-by (λ r. length r ≡ n) row e (λ x _. length-map row (λ g. mul binary32 g x) ∙ e)
+
+-- ---- +0 stays +0
+
+none-rounded : round binary32 false 0 (2 ^ 149 * 2 ^ 149) ≡ +0
+none-rounded = unfold round units odd size span climb in refl
+
+zero-times : {x : Float} {B : ℕ} → Most binary32 x false B → mul binary32 +0 x ≡ +0
+zero-times m = mul-round zero-val (m .val) ∙ ap (λ (n : ℕ). round binary32 false n (2 ^ 149 * 2 ^ 149)) (zero-mul (m .X)) ∙ none-rounded
+
+map-zero : (f : Float → Float) → f +0 ≡ +0 → (l : List Float) (o : ℕ) → getD l o nan ≡ +0 → getD (map f l) o nan ≡ +0
+map-zero f k [] o e = e
+map-zero f k (a ∷ l) zero e = ap f e ∙ k
+map-zero f k (a ∷ l) (suc o) e = map-zero f k l o e
+
+pub scaled-zero : (o : ℕ) (row : List Float) → getD row o nan ≡ +0 → getD (scaled row) o nan ≡ +0
+scaled-zero o row e = scaled-by (λ r. getD r o nan ≡ +0) row e (λ x k. map-zero (λ g. mul binary32 g x) (zero-times k) row o e)

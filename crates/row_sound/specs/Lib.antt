@@ -1,1 +1,2 @@
 pub mod RowSound
+pub mod Silent

@@ -1,1 +1,1 @@
-// Rows of a layout that `new` makes: finite throughout. A definition and laws; it has no code.
+// Rows of a layout that `new` makes: finite throughout, and +0 in LFE slots. Definitions and laws; it has no code.

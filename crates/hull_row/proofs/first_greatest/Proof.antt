@@ -1,83 +1,57 @@
--- `hull_row::first_greatest` meets its contract. The loop's invariant: best and value are the place and the number of the greatest so far. Assumes nothing.
-use Prim.Native.Nat.{ℕ, _≤_, _-_, zero-le}
-use mathlib.Core.Path.{_≡_, sym, ap, ap₂, _∙_}
-use mathlib.Core.Logic.{⊎-elim}
+-- `hull_row::first_greatest` meets its contract: what the check of the guess tells names the place; without it, the place is found one number after the other. Assumes nothing.
 use denote.Ref.{now}
-use lib.ListN.{length, take}
-use lib.Seq.{getD-take, length-take-le}
-use lib.Ieee.{Float, nan, lt, div, neg, ofBits}
-use Rattle.hull_row.specs.HullRow.{Near}
-use Rattle.hull_row.specs.Steps.{greatestTo, firstGreatest}
-use Rattle.hull_row.proofs.Choice.{greatest-none, greatest-yes, greatest-no}
-use native.Mathlib.Omega.{arith}
+use lib.Ieee.{div, neg, ofBits}
+use Rattle.hull_row.proofs.Found.{found}
+use borrow.Author.Needs.{needs}
 use Rattle.hull_row.proofs.first_greatest.Statement.{statement}
 use Rattle.hull_row.proofs.first_greatest.Tie as tie
 
--- a place with its number
-abbrev near : ℕ → Float → Near
-near i v = record { number = i; product = v }
+guess-requires : tie.Need-guess-requires
+guess-requires c κs = search needs
 
-abbrev Inv-loop : tie.InvT-loop
-Inv-loop l n none best₀ value₀ i₀ best value i = (i ≤ n) × (_≡_ {A = Near} (near best value) (greatestTo none (take n l) i))
+first-kept-requires : tie.Need-first-kept-requires
+first-kept-requires c κs = search needs
 
-abbrev μ-loop : tie.MeasureT-loop
-μ-loop l n none best₀ value₀ i₀ best value i = n - i
+first-by-turns-requires : tie.Need-first-by-turns-requires
+first-by-turns-requires c κs = search needs
 
-loop-holds : tie.Need-loop-holds Inv-loop μ-loop
+returns : tie.Need-returns
+returns c = search needs
+
+any-above-requires : tie.Need-any-above-requires
+any-above-requires c κs = search needs
+
+first-by-turns-requires-2 : tie.Need-first-by-turns-requires-2
+first-by-turns-requires-2 c κs = search needs
+
+returns-2 : tie.Need-returns-2
+returns-2 c = search needs
+
+returns-3 : tie.Need-returns-3
 unfolding div neg ofBits
-loop-holds c = (zero-le, sym (greatest-none (c .args .none) (take (c .args .n) (now (c .args .l)))))
+returns-3 c =
+    let s = c .before .before .before .before .before .before .before in
+    let a = s .args in
+    found (a .none) (now (a .l)) (a .n) (c .before .before .before .before .before .guess .result) (c .before .before .before .before .first-kept .result) (s .pre) (c .before .before .before .if1 .left) (c .before .before .if2 .taken) (c .before .before .before .before .first-kept .ensures)
+    (c .before .any-above .ensures (c .if3 .left))
 
-mul-if1 : tie.Need-mul-if1 Inv-loop μ-loop
-mul-if1 c = omega arith
+first-by-turns-requires-3 : tie.Need-first-by-turns-requires-3
+first-by-turns-requires-3 c κs = search needs
 
-shared-slice-read-if1 : tie.Need-shared-slice-read-if1 Inv-loop μ-loop
-shared-slice-read-if1 c = omega arith
-
-mul-value : tie.Need-mul-value Inv-loop μ-loop
-mul-value c = omega arith
-
-shared-slice-read-value : tie.Need-shared-slice-read-value Inv-loop μ-loop
-shared-slice-read-value c = omega arith
-
-add-i : tie.Need-add-i Inv-loop μ-loop
-add-i c = omega arith
-
-loop-less : tie.Need-loop-less Inv-loop μ-loop
-loop-less c = omega arith
-
-loop-again : tie.Need-loop-again Inv-loop μ-loop
-loop-again c =
-    let a = c .before .before .before .before .args in
-    let l = c .before .before .before .loop in
-    let m = take (a .n) (now (a .l)) in
-    let e = getD-take (a .n) (now (a .l)) (l .i) nan (omega arith) in (
-      omega arith,
-      ⊎-elim
-          (λ w. ap₂ near (w .2) (w .3 ∙ sym e) ∙ greatest-yes (a .none) m (l .i) (l .best) (l .value) (l .inv .1) (ap (lt (l .value)) e ∙ w .0 .taken))
-          (λ w. ap₂ near (w .1) (w .2) ∙ greatest-no (a .none) m (l .i) (l .best) (l .value) (l .inv .1) (ap (lt (l .value)) e ∙ w .0 .left))
-          (c .if1 .came),
-    )
-
-returns : tie.Need-returns Inv-loop μ-loop
-unfolding firstGreatest
-returns c =
-    let a = c .before .before .args in
-    let l = c .before .loop in
-    let e : l .i ≡ length (take (a .n) (now (a .l))) = omega (arith, length-take-le (a .n) (now (a .l)) (c .before .before .pre)) in
-    ap (λ (b : Near). b .number) (l .inv .1 ∙ ap (greatestTo (a .none) (take (a .n) (now (a .l)))) e)
+returns-4 : tie.Need-returns-4
+returns-4 c = search needs
 
 pub first-greatest-spec : {M : Type 1} → statement M
 first-greatest-spec =
     tie.close
     (tie.spec
-    Inv-loop
-    μ-loop
-    loop-holds
-    mul-if1
-    shared-slice-read-if1
-    mul-value
-    shared-slice-read-value
-    add-i
-    loop-less
-    loop-again
-    returns)
+    guess-requires
+    first-kept-requires
+    first-by-turns-requires
+    returns
+    any-above-requires
+    first-by-turns-requires-2
+    returns-2
+    returns-3
+    first-by-turns-requires-3
+    returns-4)

@@ -12,10 +12,10 @@ use Rattle.hull_row.proofs.power.Statement.{statement}
 use Rattle.hull_row.proofs.power.Tie as tie
 
 abbrev Inv-loop : tie.InvT-loop
-Inv-loop out p₀ i₀ p i = (i ≤ length out) × (p ≡ powerOf (take i out))
+Inv-loop out p₀ k₀ p k = (k ≤ length out) × (p ≡ powerOf (take k out))
 
 abbrev μ-loop : tie.MeasureT-loop
-μ-loop out p₀ i₀ p i = length out - i
+μ-loop out p₀ k₀ p k = length out - k
 
 loop-holds : tie.Need-loop-holds Inv-loop μ-loop
 unfolding ofBits
@@ -33,8 +33,8 @@ mul-p-2 c = omega arith
 shared-slice-read-p-2 : tie.Need-shared-slice-read-p-2 Inv-loop μ-loop
 shared-slice-read-p-2 c = omega arith
 
-add-i : tie.Need-add-i Inv-loop μ-loop
-add-i c = omega arith
+add-k : tie.Need-add-k Inv-loop μ-loop
+add-k c = omega arith
 
 loop-less : tie.Need-loop-less Inv-loop μ-loop
 loop-less c = omega arith
@@ -44,14 +44,14 @@ loop-again c =
     let o = now (c .before .before .before .before .args .out) in
     let l = c .before .before .before .loop in (
       omega arith,
-      ap (λ (p : Float). add binary32 p (mul binary32 (getD o (l .i) nan) (getD o (l .i) nan))) (l .inv .1) ∙ power-more o (l .i) (omega arith),
+      ap (λ (p : Float). add binary32 p (mul binary32 (getD o (l .k) nan) (getD o (l .k) nan))) (l .inv .1) ∙ power-more o (l .k) (omega arith),
     )
 
 returns : tie.Need-returns Inv-loop μ-loop
 returns c =
     let o = now (c .before .before .args .out) in
     let l = c .before .loop in
-    l .inv .1 ∙ ap powerOf (take-all (l .i) o (omega arith))
+    l .inv .1 ∙ ap powerOf (take-all (l .k) o (omega arith))
 
 pub power-spec : {M : Type 1} → statement M
 power-spec =
@@ -64,7 +64,7 @@ power-spec =
     shared-slice-read-p
     mul-p-2
     shared-slice-read-p-2
-    add-i
+    add-k
     loop-less
     loop-again
     returns)

@@ -1,7 +1,7 @@
 -- `hull_row::scale` meets its contract: by whether the power is above the least. Assumes nothing.
 use mathlib.Core.Path.{sym, ap, _∙_}
 use denote.Ref.{now}
-use lib.Ieee.{Float, ofBits, binary32, div, lt}
+use lib.Ieee.{ofBits, binary32, div, lt}
 use Rattle.ieee.specs.Values.{1·0}
 use Rattle.ieee.specs.Root.{sqrtOf}
 use Rattle.planar_row.specs.PlanarRow.{leastPower}

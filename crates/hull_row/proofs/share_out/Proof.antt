@@ -1,12 +1,11 @@
 -- `hull_row::share_out` meets its contract. The loop's invariant: the gains of the imaginary points passed are shared out. Assumes nothing.
 use Prim.Native.Nat.{_≤_, _*_, _+_, _-_, zero-le}
 use mathlib.Core.Path.{_≡_, refl, ap, _∙_}
-use mathlib.Core.List.{List}
 use borrow.Author.Tests.{leb-true}
 use denote.Ref.{now}
 use lib.Dec.{leb}
 use lib.ListN.{length, getD, take, drop}
-use lib.Ieee.{Float, nan}
+use lib.Ieee.{nan}
 use Rattle.panner.proofs.Bounds.{every-getD}
 use Rattle.hull_row.specs.Steps.{sharedBy, sharedOut}
 use Rattle.hull_row.proofs.Places.{shared-none, shared-more}

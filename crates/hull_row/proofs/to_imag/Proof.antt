@@ -1,5 +1,5 @@
 -- `hull_row::to_imag` meets its contract: by whether the point is one of the imaginary ones. Assumes nothing.
-use mathlib.Core.Path.{_≡_, ap₂, _∙_}
+use mathlib.Core.Path.{ap₂, _∙_}
 use Prim.Native.Nat.{ℕ}
 use lib.Ieee.{Float, ofBits}
 use Rattle.planar_row.specs.PlanarRow.{addAt}

@@ -1,0 +1,5 @@
+pub mod Stores
+pub mod Refusals
+pub mod Answers
+pub mod Opening
+pub mod Meaning

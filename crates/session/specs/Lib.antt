@@ -1,0 +1,4 @@
+pub mod Open
+pub mod Session
+pub mod Answers
+pub mod Meaning
