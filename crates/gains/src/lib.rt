@@ -52,6 +52,7 @@ fn row(p: VbapPanner, az: f32, el: f32, out: &mut [f32])
 }
 
 // `VbapPanner::gains`: 11 for a malformed record, nothing touched; else 0, and the row in the first of the places, as many as there are outputs.
+// Free to the program: the sign and payload of a NaN in a row of a record made by hand; every choice is a NaN. A record from `new` gives none (crate row_sound).
 pub fn gains(panner: VbapPanner, az: f32, el: f32, out: &mut [f32]) -> u32
     ensures { λ r. ⌜ r ≡ gainsNumber panner ⌝ }
     ensures { λ _. ⌜ now (out .exit) ≡ gainsBuffer panner az el (now (out .entry)) ⌝ }

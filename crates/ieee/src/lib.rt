@@ -434,7 +434,7 @@ pub fn max64(x: f64, y: f64) -> f64
     if x < y { y } else { x }
 }
 
-// The lesser; the other value for a NaN, the first of two zeros.
+// The lesser; the other value for a NaN. Of two zeros document 01 leaves the choice: here the first; every choice is a zero, and it is only ever compared.
 pub fn min32(x: f32, y: f32) -> f32
     ensures { λ r. ⌜ r ≡ minOf x y ⌝ }
 {

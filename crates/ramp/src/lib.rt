@@ -26,6 +26,7 @@ fn norm_sq(t: f32, dot: f32) -> f32
 }
 
 // The gain between two rows' gains at t, without a power dip.
+// Free to the program: the sign and payload of a NaN; every choice is a NaN.
 pub fn normalized_lerp_gain(from: f32, to: f32, dot: f32, t: f32) -> f32
     ensures { λ r. ⌜ r ≡ normalizedLerpGainOf from to dot t ⌝ }
 {
@@ -165,7 +166,8 @@ fn one_by_one(dst: &mut [f32], src: &[f32], from: usize, n: usize, g0: f32, step
     }
 }
 
-// Adds src to dst at gains that go linearly from g0, not reached, to g1.
+// Adds src to dst at gains that go linearly from g0, not reached, to g1. Samples past the shorter of the two stay, bit by bit.
+// Free to the program: the sign and payload of a NaN in a ramped sample; every choice is a NaN.
 pub fn ramp_add(dst: &mut [f32], src: &[f32], g0: f32, g1: f32)
     ensures { λ r. ⌜ now (dst .exit) ≡ rampAddOf (now (dst .entry)) (now (src .entry)) g0 g1 ⌝ }
 {
