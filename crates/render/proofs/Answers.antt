@@ -1,0 +1,36 @@
+-- The answer and the buffer of a render by its number: a refused one leaves both as they were. Assumes nothing.
+use Prim.Native.Nat.{ℕ}
+use mathlib.Core.Path.{_≡_, sym, ap, _∙_}
+use mathlib.Core.Bool.{Bool, cond}
+use mathlib.Core.List.{List, flatMap}
+use borrow.Author.Tests.{eq-eqb, ne-eqb}
+use lib.Ieee.{Float}
+use Rattle.lists.specs.Lists.{range}
+use Rattle.history.specs.Calls.{render}
+use Rattle.session.specs.Session.{newStart, rendered, accepted, numberOf, mixed, renderedBuffer}
+use Rattle.session.specs.Answers.{answerOf}
+use Rattle.session.specs.declared.Session.{Session}
+use Rattle.session.specs.declared.Answer.{Answer}
+use Rattle.session.proofs.Answers.{refused-as, accepted-as}
+
+module _ (s : Session) (L : ℕ) (samples outputs : List Float) where
+  module _ {why : ℕ} (w : why ≡ numberOf s (render L samples outputs)) where
+    pub render-refused : (why ≡ 0 → ⊥) → _≡_ {A = Answer} (record { number = why; session = s }) (answerOf s (render L samples outputs))
+    render-refused h = refused-as s (render L samples outputs) (sym w) h
+
+    pub buffer-refused : (why ≡ 0 → ⊥) → outputs ≡ renderedBuffer s L samples outputs
+    unfolding renderedBuffer
+    buffer-refused h = sym (ap (λ (b : Bool). cond b (mixed s L samples outputs) outputs) (ne-eqb (numberOf s (render L samples outputs)) 0 (λ e. h (w ∙ e))))
+
+    pub render-done : why ≡ 0 → {to : List Float} → to ≡ flatMap (newStart s) (range 8)
+        → _≡_ {A = Answer} (record { number = 0; session = record { panner = s .panner; sources = s .sources; counts = s .counts; standing = s .standing; starts = to } })
+        (answerOf s (render L samples outputs))
+    unfolding accepted rendered
+    render-done z {to} e = accepted-as s (render L samples outputs) (sym w ∙ z) (ap made e)
+      where
+        made : List Float → Session
+        made l = record { panner = s .panner; sources = s .sources; counts = s .counts; standing = s .standing; starts = l }
+
+    pub buffer-done : why ≡ 0 → mixed s L samples outputs ≡ renderedBuffer s L samples outputs
+    unfolding renderedBuffer
+    buffer-done z = sym (ap (λ (b : Bool). cond b (mixed s L samples outputs) outputs) (eq-eqb (numberOf s (render L samples outputs)) 0 (sym w ∙ z)))
