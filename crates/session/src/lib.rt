@@ -8,7 +8,6 @@ ghost use lib.Seq.{sets};
 ghost use Rattle.lists.specs.Lists.{any};
 ghost use Rattle.ieee.specs.Values.{+0};
 ghost use Rattle.panner.specs.Panner.{noPanner};
-ghost use Rattle.gains.specs.Gains.{finiteOr0};
 ghost use Rattle.history.specs.Calls.{place, takeBack, settle};
 ghost use Rattle.history.specs.History.{depth};
 ghost use Rattle.session.specs.Open.{fresh, openOf};
@@ -144,13 +143,6 @@ fn refusal(s: Session, source: usize) -> u32
 
 // ---- place, take back, settle
 
-// A non-finite angle counts as +0.
-fn finite_or_0(x: f32) -> f32
-    ensures { λ r. ⌜ r ≡ finiteOr0 x ⌝ }
-{
-    if ieee::is_finite32(x) { x } else { 0.0 }
-}
-
 // With another count for a source, and another direction j of it.
 fn restood(s: Session, source: usize, n: u8, j: usize, az: f32, el: f32) -> Session
     requires { ⌜ (source < 8) × (j < depth) ⌝ }
@@ -189,8 +181,8 @@ pub fn place(s: Session, source: usize, az: f32, el: f32) -> Answer
             source,
             n + 1,
             n as usize,
-            finite_or_0(az),
-            finite_or_0(el),
+            gains::finite_or_0(az),
+            gains::finite_or_0(el),
         ),
     }
 }
