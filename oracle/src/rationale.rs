@@ -1,5 +1,8 @@
-//! The numbers that docs/RATIONALE.md quotes, in its order: `oracle rationale` prints them.
+//! The numbers that docs/RATIONALE.md quotes, in its order, and docs/DIFFERENCES.md: `oracle rationale` prints them.
 //! Experiments run on `vbap_measured`, which is the source while no tolerance is changed.
+
+mod differences;
+mod findings;
 
 use crate::chosen_layouts::{eight_imaginary, raised_centre, rounded, wall};
 use crate::edges::{edges, third_of_four, Edge, Position, F, TOP};
@@ -215,9 +218,15 @@ fn near(d: &Position, e: &Position) -> bool {
     squares.sum::<f64>() < 1e-6
 }
 
+/// Whether two real points of a hull are less than 0.001 apart.
+fn has_near(p: &Panner) -> bool {
+    let dirs = &p.pt_dir[..p.num_real];
+    dirs.iter().enumerate().any(|(i, d)| dirs[..i].iter().any(|e| near(d, e)))
+}
+
 /// Speakers that stand alone by 0.001 and do not sound with gain 1 in their own direction.
 fn own_direction() {
-    let (mut speakers, mut weak, mut least) = (0, 0, 1.0f32);
+    let (mut speakers, mut weak, mut beside, mut least) = (0, 0, 0, 1.0f32);
     for layout in stored() {
         let record = layout.opened().panner;
         if record.kind != Kind::Hull {
@@ -233,10 +242,11 @@ fn own_direction() {
             let gain = gains[record.pt_out[i] as usize];
             speakers += 1;
             weak += usize::from(gain < 0.999);
+            beside += usize::from(gain < 0.999 && has_near(&record));
             least = least.min(gain);
         }
     }
-    println!("  {speakers} speakers of hulls, 0.001 or more from the next: {weak} have a gain below 0.999 in their own direction, the least {least:.3}");
+    println!("  {speakers} speakers of hulls, 0.001 or more from the next: {weak} have a gain below 0.999 in their own direction, the least {least:.3}; {beside} of these in layouts with two speakers nearer than that");
 }
 
 /// Imaginary speakers and closed hulls over the stored layouts.
@@ -545,7 +555,7 @@ fn ramps_and_mixes() {
     }
 }
 
-/// Prints every number that docs/RATIONALE.md quotes.
+/// Prints every number that docs/RATIONALE.md and docs/DIFFERENCES.md quote.
 pub fn report() -> Result<(), String> {
     println!("# either side of each tolerance");
     edges().iter().for_each(print_edge);
@@ -564,6 +574,8 @@ pub fn report() -> Result<(), String> {
     inside();
     short_buffers();
     ramps_and_mixes();
+    findings::report();
+    differences::report();
     println!("# all stored layouts");
     own_direction();
     without_ties();
