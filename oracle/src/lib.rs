@@ -1,6 +1,9 @@
 //! The panner's source with document 01's stand-ins, and what is made with it: case lists for
 //! the replaying programs, layouts as flat records, and the session written twice.
 
+pub mod call_line;
+pub mod call_lists;
+pub mod chosen_calls;
 pub mod chosen_layouts;
 pub mod edges;
 pub mod functions;
@@ -11,6 +14,7 @@ pub mod layouts;
 pub mod libm;
 pub mod lists;
 pub mod made_records;
+pub mod made_sessions;
 pub mod ramps;
 pub mod random;
 pub mod random_layouts;

@@ -1,5 +1,6 @@
 //! The stored case lists: which functions, where, with which seed, and their text.
 
+use crate::call_lists;
 use crate::chosen_layouts;
 use crate::functions::function;
 use crate::generators::{chosen, draw, left_out};
@@ -32,7 +33,7 @@ pub const CASES: usize = 20_000;
 pub const MAX_BYTES: usize = 3_000_000;
 
 /// Every stored list. The seeds are arbitrary.
-pub const LISTS: [List; 14] = [
+pub const LISTS: [List; 16] = [
     List {
         name: "widths",
         path: "crates/replay_widths/stdin",
@@ -83,6 +84,8 @@ pub const LISTS: [List; 14] = [
     List { name: "ramps", path: "crates/replay_ramps/stdin", seed: 0x10c, cases: Cases::Lines(ramps::ramps) },
     List { name: "rows", path: "crates/replay_rows/stdin", seed: 0x10d, cases: Cases::Lines(row_lists::first) },
     List { name: "rows_2", path: "crates/replay_rows_2/stdin", seed: 0x10e, cases: Cases::Lines(row_lists::second) },
+    List { name: "calls", path: "crates/replay_calls/stdin", seed: 0x10f, cases: Cases::Lines(call_lists::opened) },
+    List { name: "calls_2", path: "crates/replay_calls_2/stdin", seed: 0x110, cases: Cases::Lines(call_lists::made) },
 ];
 
 /// A list by its name.

@@ -20,7 +20,7 @@ fn bits(patterns: &[u32]) -> Vec<f32> {
 }
 
 /// Azimuths: zeros, parts of a turn, beyond a turn, tiny, huge, and not finite.
-fn special_azimuths() -> Vec<f32> {
+pub fn special_azimuths() -> Vec<f32> {
     let mut v = vec![0.0, -0.0, f32::INFINITY, f32::NEG_INFINITY, 7.0, -7.0, 100.0, 1e6, -1e6, 1e30, -1e30, f32::MAX];
     for part in [PI64, HALF_PI, TWO_PI] {
         v.extend([part as f32, -part as f32]);
@@ -32,7 +32,7 @@ fn special_azimuths() -> Vec<f32> {
 }
 
 /// Elevations: as the azimuths, with the planar limit and the neighbours of both ends.
-fn special_elevations() -> Vec<f32> {
+pub fn special_elevations() -> Vec<f32> {
     let mut v = vec![0.0, -0.0, f32::NEG_INFINITY, 0.5, -1.2, 2.5, 100.0, 1e30, PLANAR, -PLANAR];
     v.extend([HALF_PI, PI64, 0.5 * HALF_PI].iter().flat_map(|x| [*x as f32, -*x as f32]));
     let limit = PLANAR.to_bits();

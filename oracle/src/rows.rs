@@ -31,12 +31,12 @@ fn before(length: usize) -> Vec<f32> {
     (0..length as u32).map(|i| f32::from_bits(BEFORE + i)).collect()
 }
 
-fn comment(name: &str) -> String {
+pub fn comment(name: &str) -> String {
     if name.is_empty() { String::new() } else { format!("# {name}\n") }
 }
 
 /// Equal bits, or two NaNs.
-fn same(a: f32, b: f32) -> bool {
+pub fn same(a: f32, b: f32) -> bool {
     a.to_bits() == b.to_bits() || (a.is_nan() && b.is_nan())
 }
 

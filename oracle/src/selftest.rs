@@ -3,8 +3,10 @@
 
 use crate::history::History;
 use crate::layouts::{front, open_refusal, opened, random_layout, repeated, triples, MAX_SOURCES};
+use crate::lists::list;
 use crate::random::Random;
 use crate::record::{Kind, Pair, Panner};
+use crate::rows::same;
 use crate::session::{open, Call, Session, DEPTH, MAX_BLOCK};
 use crate::source::vbap_standins::{normalized_lerp_gain, ramp_add, VbapPanner};
 use crate::standins::PI64;
@@ -69,21 +71,21 @@ fn mixed(before: &[Vec<f32>], after: &[Vec<f32>], length: usize, samples: &[f32]
     out
 }
 
-/// One call on both; the returned number, where they agree in all.
-fn agree(session: &mut Session, history: &mut History, call: &Call) -> Result<u8, String> {
-    let before = history.rows.clone();
-    let (mut on_record, number) = (call.clone(), history.call(call));
-    let given = session.call(&mut on_record);
+/// One call on both; the returned number, where they agree in all. The call then holds the mix.
+pub fn agree(session: &mut Session, history: &mut History, call: &mut Call) -> Result<u8, String> {
+    let (before, asked) = (history.rows.clone(), call.clone());
+    let number = history.call(&asked);
+    let given = session.call(call);
     if given != number || !history.stands_for(session) {
-        return Err(format!("{call:?}: record gives {given}, history {number}, or they part"));
+        return Err(format!("{asked:?}: record gives {given}, history {number}, or they part"));
     }
-    if let (Call::Render { length, samples, outputs }, Call::Render { outputs: found, .. }) = (call, &on_record) {
+    if let (Call::Render { length, samples, outputs }, Call::Render { outputs: found, .. }) = (&asked, &*call) {
         let told = match number {
             0 => mixed(&before, &history.rows, *length, samples, outputs),
             _ => outputs.clone(),
         };
-        if bits(&told) != bits(found) {
-            return Err(format!("{call:?}: another mix"));
+        if !told.iter().zip(found).all(|(a, b)| same(*a, *b)) || told.len() != found.len() {
+            return Err(format!("{asked:?}: another mix"));
         }
     }
     Ok(number)
@@ -103,8 +105,8 @@ fn call_list(r: &mut Random, seen: &mut [u64; 12]) -> Result<usize, String> {
     let mut history = History::beginning(&numbers, &lfe, sources);
     let (count, eager) = (r.below(120) as usize, r.below(2) == 0);
     for _ in 0..count {
-        let call = random_call(r, sources, numbers.len() / 3, eager);
-        seen[agree(&mut session, &mut history, &call)? as usize] += 1;
+        let mut call = random_call(r, sources, numbers.len() / 3, eager);
+        seen[agree(&mut session, &mut history, &mut call)? as usize] += 1;
     }
     Ok(count)
 }
@@ -239,7 +241,30 @@ fn session_cases() -> Result<(), String> {
     expect(render(MAX_BLOCK) == 0 && render(MAX_BLOCK + 1) == 8 && render(0) == 8, "1,024 passes, 1,025 and 0: 8")
 }
 
+/// The stored lists of calls: how many, none longer than 200 calls, and every number among them.
+fn stored_calls() -> Result<(), String> {
+    let text = list("calls").text() + &list("calls_2").text();
+    let (mut lists, mut calls, mut seen) = (0, 0, [0u64; 12]);
+    for line in text.lines().filter(|l| !l.starts_with('#')) {
+        let words: Vec<&str> = line.split(' ').collect();
+        let number = match words[0] {
+            "open" => words[words.len() - 2],
+            "session" | "end" => "",
+            _ => words[words.len() - 1],
+        };
+        match usize::from_str_radix(number, 16) {
+            Ok(n) => seen[n] += 1,
+            Err(_) => lists += u64::from(words[0] == "end"),
+        }
+        calls = if words[0] == "end" { 0 } else { calls + u64::from(!number.is_empty()) };
+        expect(calls <= 200, "a list of more than 200 calls")?;
+    }
+    println!("{lists} lists of calls; numbers returned, 0 to 11: {seen:?}");
+    expect(lists >= 3000 && seen.iter().all(|n| *n > 0), "3,000 lists and every number")
+}
+
 fn run() -> Result<(), String> {
+    stored_calls()?;
     proving_ground()?;
     refusal_four()?;
     session_cases()?;

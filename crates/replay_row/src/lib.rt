@@ -1,10 +1,10 @@
 // Replays a list of rows from standard input: sets layouts, asks each row with `gains` and each count with `num_outputs`, and compares bit by bit.
 // It writes the first five lines that differ or are malformed, how many lines there were of each name, and how many differed.
-mod record;
+pub mod record;
 mod report;
 mod row;
-mod speakers;
-mod words;
+pub mod speakers;
+pub mod words;
 
 use cases::Cursor;
 use cases::Word;
@@ -52,7 +52,7 @@ struct State {
 // ---- a line
 
 // Whether the word that ends at an index of the line is a name.
-fn is_named(line: &[u8], to: usize, name: &[u8]) -> bool {
+pub fn is_named(line: &[u8], to: usize, name: &[u8]) -> bool {
     if to > line.len() {
         return false;
     }
@@ -95,7 +95,7 @@ fn name_of(line: &[u8]) -> Named {
     Named { place: 4, next }
 }
 
-fn is_comment(line: &[u8]) -> bool {
+pub fn is_comment(line: &[u8]) -> bool {
     if line.len() == 0 {
         return false;
     }

@@ -14,13 +14,13 @@ pub struct Made {
 }
 
 // A list that was read, and how many numbers it has.
-struct Given {
-    count: usize,
-    walk: Walk,
+pub struct Given {
+    pub count: usize,
+    pub walk: Walk,
 }
 
 // The numbers of the positions.
-fn positions(line: &[u8], w: Walk, to: &mut [f32; 256]) -> Given
+pub fn positions(line: &[u8], w: Walk, to: &mut [f32; 256]) -> Given
     ensures { λ r. ⌜ r .count ≤ 256 ⌝ }
 {
     let head = read_byte(line, w, 255);
@@ -37,7 +37,7 @@ fn positions(line: &[u8], w: Walk, to: &mut [f32; 256]) -> Given
 }
 
 // The LFE entries.
-fn entries(line: &[u8], w: Walk, to: &mut [usize; 64]) -> Given
+pub fn entries(line: &[u8], w: Walk, to: &mut [usize; 64]) -> Given
     ensures { λ r. ⌜ r .count ≤ 64 ⌝ }
 {
     let head = read_byte(line, w, 64);

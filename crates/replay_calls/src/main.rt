@@ -1,0 +1,4 @@
+// Replays lists of calls on opened sessions: document 01's cases first, then drawn ones.
+fn main() {
+    replay_call::run();
+}

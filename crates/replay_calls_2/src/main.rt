@@ -1,0 +1,4 @@
+// Replays lists of calls on sessions made by hand.
+fn main() {
+    replay_call::run();
+}
