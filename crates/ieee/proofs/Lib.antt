@@ -1,10 +1,12 @@
+pub mod Candidate
 pub mod Examples
 pub mod Grid
 pub mod Laws
 pub mod Meaning
 pub mod Order
 pub mod Read
+pub mod Remainder
 pub mod Root
+pub mod Rounded
 pub mod Sqrt
-pub mod UpperRoot
 pub mod Values

@@ -1,12 +1,11 @@
--- Maximum, minimum, clamp and the remainder by the tests that the code makes, in its order. Assumes nothing.
+-- Maximum, minimum and clamp by the tests that the code makes, in its order. Assumes nothing.
 use mathlib.Core.Path.{_≡_, refl, sym, ap, _∙_}
 use mathlib.Core.Bool.{Bool, true, false, not, _&&_, cond}
-use lib.Ieee.{Float, nan, Format, isNan, ne, lt, eq, add, rem}
+use lib.Ieee.{Float, nan, isNan, ne, lt, eq}
 use lib.Ieee.Compare.{differs-from-itself}
 use lib.Dec.{T}
 use Rattle.ieee.specs.Values.{+0, 1·0}
 use Rattle.ieee.specs.Order.{maxOf, minOf, clampOf}
-use Rattle.ieee.specs.Remainder.{remEuclidOf}
 use Rattle.ieee.proofs.Read.{nan-not}
 
 -- ---- one branch of a `cond`, by what its test says
@@ -86,13 +85,3 @@ module _ (x : Float) where
   pub clamp-between : lt x +0 ≡ false → lt 1·0 x ≡ false → x ≡ clampOf x
   unfolding clampOf
   clamp-between a b = sym (no _ _ a ∙ no _ _ b)
-
--- ---- the remainder
-module _ (f : Format) (x m : Float) where
-  pub rem-negative : lt (rem f x m) +0 ≡ true → add f (rem f x m) m ≡ remEuclidOf f x m
-  unfolding remEuclidOf
-  rem-negative h = sym (yes _ _ h)
-
-  pub rem-plain : lt (rem f x m) +0 ≡ false → rem f x m ≡ remEuclidOf f x m
-  unfolding remEuclidOf
-  rem-plain h = sym (no _ _ h)

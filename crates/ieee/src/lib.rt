@@ -3,13 +3,13 @@
 // binary64: 53 digits, largest exponent 1023, smallest value 2^-1074. In a bit pattern the exponent's field weighs 2^23 = 0x80_0000 and 2^52 = 0x10_0000_0000_0000,
 // the sign 2^31 = 0x8000_0000 and 2^63 = 0x8000_0000_0000_0000, and the highest field, of infinities and NaNs, is 255 and 2047.
 ghost use mathlib.Core.Path.{_≡_};
-ghost use mathlib.Core.Bool.{false, _&&_, _||_, cond};
+ghost use mathlib.Core.Bool.{true, false, _&&_, _||_, cond};
 ghost use lib.Dec.{eqb};
 ghost use Prim.Native.Nat.{ℕ, _+_, _-_, _*_, _/_, _%_, _^_, _≤_, _<_};
 ghost use lib.IntN.{pos};
-ghost use lib.Ieee.{Format, binary32, binary64, prec, low, units, round, ofInt};
+ghost use lib.Ieee.{Format, binary32, binary64, prec, low, units, round, ofInt, add, lt};
 ghost use lib.Ieee.Nearest.{closest};
-ghost use Rattle.ieee.specs.Values.{abs, signBit, isFinite};
+ghost use Rattle.ieee.specs.Values.{+0, abs, signBit, isFinite};
 ghost use Rattle.ieee.specs.Order.{maxOf, minOf, clampOf, powi4Of};
 ghost use Rattle.ieee.specs.Remainder.{remEuclidOf};
 ghost use Rattle.ieee.specs.Narrow.{narrowOf};
@@ -97,6 +97,15 @@ fn pack32(neg: bool, m: u64, j: u32) -> f32
     }
 }
 
+// The f32 nearest to m * 2^(k + 896) / 2^1074, of an m with 53 digits, of which 24 are kept. In smallest f32 values that is m / 2^29 * 2^k.
+fn pack32_normal(neg: bool, m: u64, k: u32) -> f32
+    requires { ⌜ (2 ^ 52 ≤ m) × (m < 2 ^ 53) × (k < 2 ^ 31) ⌝ }
+    ensures { λ r. ⌜ r ≡ round binary32 neg (m * 2 ^ (k + 896)) (2 ^ 1074) ⌝ }
+{
+    // Origin: 53 - 24
+    assemble32(neg, round_shift(m, 29) as u32, k)
+}
+
 // x at the narrower format: the nearest f32, a tie to the even one.
 pub fn narrow(x: f64) -> f32
     ensures { λ r. ⌜ r ≡ narrowOf x ⌝ }
@@ -113,8 +122,10 @@ pub fn narrow(x: f64) -> f32
         if neg { -1.0 / 0.0 } else { 1.0 / 0.0 }
     } else if e == 0 {
         pack32(neg, t, 0)
+    } else if e > 896 {
+        // with its leading digit, 2^52. Origin: 897 is the field of 2^-126, the least f32 with all its digits
+        pack32_normal(neg, t + 0x10_0000_0000_0000, (e - 897) as u32)
     } else {
-        // with its leading digit, 2^52
         pack32(neg, t + 0x10_0000_0000_0000, (e - 1) as u32)
     }
 }
@@ -171,95 +182,6 @@ fn root_by_digits(m: u64) -> Found
     Found { root, rem }
 }
 
-// One of Heron's steps from g towards the root of x.
-fn heron(x: u64, g: u64) -> u64
-    requires { ⌜ (x < 2 ^ 56) × (0 < g) × (g < 2 ^ 60) ⌝ }
-    ensures { λ r. ⌜ (g ≤ 2 * r + 1) × (r < 2 ^ 60) ⌝ }
-{
-    (g + x / g) / 2
-}
-
-// A guess of the root of t * 2^38. Origin: two straight lines that stay within 1 percent of it from t = 2^16 on; any line serves, since the result is checked.
-fn line(t: u64) -> u64
-    requires { ⌜ t < 2 ^ 18 ⌝ }
-    ensures { λ r. ⌜ (2 ^ 20 < r) × (r < 2 ^ 30) ⌝ }
-{
-    if t < 0x2_0000 {
-        t * 855 + 79220736
-    } else {
-        t * 604 + 112029000
-    }
-}
-
-// A number near the root of x, at most 2^28: two of Heron's steps from the guess, and one down if that is too large. Nothing more is promised, and `root_digits` checks it.
-fn near_root(x: u64) -> u64
-    requires { ⌜ x < 2 ^ 56 ⌝ }
-    ensures { λ r. ⌜ r ≤ 2 ^ 28 ⌝ }
-{
-    // Origin: 2^38, which leaves 18 digits of x
-    let g = heron(x, heron(x, line(x / 0x40_0000_0000)));
-    // Origin: 2^28, the root of 2^56
-    if g > 0x1000_0000 {
-        return 0;
-    }
-    if x < square(g) {
-        if g == 0 {
-            return 0;
-        }
-        return g - 1;
-    }
-    g
-}
-
-// The square of g.
-fn square(g: u64) -> u64
-    requires { ⌜ g ≤ 2 ^ 28 ⌝ }
-    ensures { λ r. ⌜ r ≡ g * g ⌝ }
-{
-    g * g
-}
-
-// From the root s of the upper 56 bits, with r left, to the root of all: s gives the upper 28 digits, and a division by 2 * s the lower 27, at most one too many.
-fn finish(m: u64, s: u64, r: u64) -> Found
-    requires { ⌜ (2 ^ 62 ≤ m) × (m / 256 ≡ s * s + r) × (r ≤ 2 * s) × (s ≤ 2 ^ 28) × (2 ^ 27 ≤ s) ⌝ }
-    ensures { λ f. ⌜ (m * 2 ^ 46 ≡ f .root * f .root + f .rem) × (f .rem ≤ 2 * f .root) × (2 ^ 54 ≤ f .root) × (f .root < 2 ^ 55) ⌝ }
-{
-    // Origin: 2^27; 256 is 2^8, the bits below the upper 56; 2^19 is 2^27 / 2^8
-    let n = r * 0x800_0000 + m % 256 * 0x8_0000;
-    let d = s * 2;
-    let q = n / d;
-    let u = n % d * 0x800_0000;
-    let root = s * 0x800_0000 + q;
-    let qq = square(q);
-    if qq <= u {
-        Found { root, rem: u - qq }
-    } else {
-        Found {
-            root: root - 1,
-            rem: u + (root * 2 - 1 - qq),
-        }
-    }
-}
-
-// The whole root of m * 2^46 and what is left: by the guess where it proves right, else digit by digit.
-fn root_digits(m: u64) -> Found
-    requires { ⌜ 2 ^ 62 ≤ m ⌝ }
-    ensures { λ r. ⌜ (m * 2 ^ 46 ≡ r .root * r .root + r .rem) × (r .rem ≤ 2 * r .root) × (2 ^ 54 ≤ r .root) × (r .root < 2 ^ 55) ⌝ }
-{
-    // Origin: the upper 56 of 64 bits. 2^27: the root of 2^54, above which x lies
-    let x = m / 256;
-    let s = near_root(x);
-    let t = square(s);
-    if s >= 0x800_0000 {
-        if t <= x {
-            if x - t <= s * 2 {
-                return finish(m, s, x - t);
-            }
-        }
-    }
-    root_by_digits(m)
-}
-
 // A number q * 2^k.
 struct Parts {
     q: u64,
@@ -275,7 +197,7 @@ fn root_parts(m: u64, j: u32, base: u32, w: u32) -> Parts
     let z = u64::leading_zeros(m);
     let c = z - (z + j + base) % 2;
     let d = (j + base - c) / 2;
-    let r = root_digits(m << c);
+    let r = root_by_digits(m << c);
     let root = r.root;
     if r.rem == 0 {
         Parts {
@@ -290,8 +212,8 @@ fn root_parts(m: u64, j: u32, base: u32, w: u32) -> Parts
     }
 }
 
-// The square root of x, to the nearest f64.
-pub fn sqrt64(x: f64) -> f64
+// The square root of any x, to the nearest f64, by whole numbers alone.
+fn sqrt64_by_digits(x: f64) -> f64
     ensures { λ r. ⌜ r ≡ sqrtOf binary64 x ⌝ }
 {
     if x != x {
@@ -320,8 +242,8 @@ pub fn sqrt64(x: f64) -> f64
     }
 }
 
-// The square root of x, to the nearest f32.
-pub fn sqrt32(x: f32) -> f32
+// The square root of any x, to the nearest f32, by whole numbers alone.
+fn sqrt32_by_digits(x: f32) -> f32
     ensures { λ r. ⌜ r ≡ sqrtOf binary32 x ⌝ }
 {
     if x != x {
@@ -348,6 +270,230 @@ pub fn sqrt32(x: f32) -> f32
         let p = root_parts((t + 0x80_0000) as u64, e - 1, 103, 31);
         assemble32(false, p.q as u32, p.k)
     }
+}
+
+// A guess at the root of an x, and at 1 / (2 * root), the slope of the root there; upper is near the root and has few digits. Nothing is promised of a guess: what is made from it is checked.
+pub struct Guess {
+    pub root: f64,
+    pub upper: f64,
+    pub slope: f64,
+}
+
+// A guess, with upper from a rough one.
+pub fn guess_of(rough: f64, root: f64, slope: f64) -> Guess {
+    // Origin: 3 * 2^26, added and taken off, leaves 26 digits of a number from 1 to 2, whose square is exact
+    Guess {
+        root,
+        upper: rough + 201326592.0 - 201326592.0,
+        slope,
+    }
+}
+
+// A guess for an x from 1 to 4.
+pub fn guess_root(x: f64) -> Guess {
+    // Origin: the polynomial of degree 6 that is nearest to 1 / sqrt(x) from 1 to 4, within 0.00021, as a product of three quadratics
+    let a = x * (x - 6.018162) + 16.11474;
+    let b = x * (x - 0.8806429) + 3.607645;
+    let c = 0.001215426 * x * (x - 10.56974) + 0.03580618;
+    let y = a * b * c;
+    // Origin: with e = (1 - x * y * y) / 2, the root is x * y * (1 + e + 1.5 * e^2 + ..)
+    let h = x * y;
+    let s = 0.5 * y;
+    let e = 0.5 - h * s;
+    let f = 1.5 * e;
+    let t = h * e;
+    let u = s * e;
+    guess_of(h, h + t + t * f, s + u + u * f)
+}
+
+// One step from the guess towards the root of x. The square of the root's guess is upper * upper + (root - upper) * (root + upper), so that no digit of its distance from x is lost.
+fn refined(x: f64, g: Guess) -> f64 {
+    let h = g.root;
+    let u = g.upper;
+    h + (x - u * u - (h - u) * (h + u)) * g.slope
+}
+
+// Whether q is the root of n * 2^52 to the nearest whole number: whether that lies above q * q - q and not above q * q + q.
+// With q = a * 2^26 + b, d is n - a * a, e is d * 2^26 - 2 * a * b + 2^30, and w is n * 2^52 - q * q + q - 1, each wrapped where it is negative.
+fn is_root52(n: u64, q: u64) -> bool
+    requires { ⌜ (n < 2 ^ 54) × (q < 2 ^ 53) ⌝ }
+    ensures { λ r. ⌜ (r ≡ true → (q * q < n * 2 ^ 52 + q) × (n * 2 ^ 52 ≤ q * q + q)) ⌝ }
+{
+    // Origin: 2^26. Of a root, d is below 2^29 and e below 2^31
+    let a = q / 0x400_0000;
+    let b = q % 0x400_0000;
+    let d = std::num::wrapping_sub_u64(n, a * a);
+    if d >= 0x2000_0000 {
+        return false;
+    }
+    let e = std::num::wrapping_sub_u64(d * 0x400_0000 + 0x4000_0000, a * b * 2);
+    if e >= 0x8000_0000 {
+        return false;
+    }
+    // Origin: 2^56 is 2^30 * 2^26
+    let w = std::num::wrapping_sub_u64(e * 0x400_0000 + q, 0x100_0000_0000_0001 + b * b);
+    w < q * 2
+}
+
+// The digits of g where they are the root of n * 2^52 to the nearest whole number, else 0.
+fn root_digits64(n: u64, g: f64) -> u64
+    requires { ⌜ n < 2 ^ 54 ⌝ }
+    ensures { λ q. ⌜ (0 < q → (2 ^ 52 ≤ q) × (q < 2 ^ 53) × (q * q < n * 2 ^ 52 + q) × (n * 2 ^ 52 ≤ q * q + q)) ⌝ }
+{
+    if g != g {
+        return 0;
+    }
+    let p = f64::to_bits(g);
+    // Origin: 1023, the exponent's field from 1 to 2
+    if p / 0x10_0000_0000_0000 != 1023 {
+        return 0;
+    }
+    // Origin: 1022 * 2^52; the pattern less that is the leading digit and those below
+    let q = p - 0x3fe0_0000_0000_0000;
+    if is_root52(n, q) {
+        return q;
+    }
+    0
+}
+
+// The digits of a value with the pattern b, twice where the exponent's field is even: what is left of the exponent is even.
+fn even_digits64(b: u64) -> u64
+    ensures { λ n. ⌜ n ≡ (b % 2 ^ 52 + 2 ^ 52) * 2 ^ (1 - b / 2 ^ 52 % 2) ⌝ }
+{
+    let m = b % 0x10_0000_0000_0000 + 0x10_0000_0000_0000;
+    if b / 0x10_0000_0000_0000 % 2 == 1 {
+        return m;
+    }
+    m * 2
+}
+
+// The square root of x, from a guess g at the root of that one of x, 4 * x, x / 4, .. which lies from 1 to 4.
+fn sqrt64_from(x: f64, g: f64) -> f64
+    ensures { λ r. ⌜ r ≡ sqrtOf binary64 x ⌝ }
+{
+    if x != x {
+        return x;
+    }
+    let b = f64::to_bits(x);
+    // Origin: the exponent's field, with the sign; 2047 is that of infinities and NaNs
+    let e = b / 0x10_0000_0000_0000;
+    if e == 0 {
+        return sqrt64_by_digits(x);
+    }
+    if e >= 2047 {
+        return sqrt64_by_digits(x);
+    }
+    let q = root_digits64(even_digits64(b), g);
+    if q == 0 {
+        return sqrt64_by_digits(x);
+    }
+    // Origin: the exponent is e - 1 + 1074, of which 52 are in n * 2^52. At 1022 x lies from 1 to 4, and the result is g
+    let k = (e + 1021) / 2;
+    if k == 1022 {
+        return assemble64(false, q, 1022);
+    }
+    assemble64(false, q, k as u32)
+}
+
+// x times or over a power of 4, from 1 to 4; of what has no root, or is too small, any number.
+fn scaled64(x: f64) -> f64 {
+    if x != x {
+        return x;
+    }
+    // Origin: the digits and the last of the exponent's field, 2^53; the field becomes 1023 where it was odd, else 1024
+    f64::from_bits(
+        (f64::to_bits(x) % 0x20_0000_0000_0000 + 0x10_0000_0000_0000) % 0x20_0000_0000_0000
+            + 0x3ff0_0000_0000_0000,
+    )
+}
+
+// The square root of x, to the nearest f64, for any guess; quick for a good one at an x from 1 to 4.
+pub fn sqrt64_near(x: f64, g: Guess) -> f64
+    ensures { λ r. ⌜ r ≡ sqrtOf binary64 x ⌝ }
+{
+    sqrt64_from(x, refined(x, g))
+}
+
+// The square root of x, to the nearest f64.
+pub fn sqrt64(x: f64) -> f64
+    ensures { λ r. ⌜ r ≡ sqrtOf binary64 x ⌝ }
+{
+    if (x >= 1.0) & (x < 4.0) {
+        return sqrt64_near(x, guess_root(x));
+    }
+    let v = scaled64(x);
+    sqrt64_from(x, refined(v, guess_root(v)))
+}
+
+// The upper 24 digits of g where they are the root of n * 2^23 to the nearest whole number, else 0.
+fn root_digits32(n: u64, g: f64) -> u64
+    requires { ⌜ n < 2 ^ 25 - 1 ⌝ }
+    ensures { λ q. ⌜ (0 < q → (2 ^ 23 ≤ q) × (q < 2 ^ 24) × (q * q < n * 2 ^ 23 + q) × (n * 2 ^ 23 ≤ q * q + q)) ⌝ }
+{
+    if g != g {
+        return 0;
+    }
+    let p = f64::to_bits(g);
+    // Origin: 1023, the exponent's field from 1 to 2
+    if p / 0x10_0000_0000_0000 != 1023 {
+        return 0;
+    }
+    // Origin: 1022 * 2^52; the pattern less that is the leading digit and those below. Of 53 digits 29 go, and 2^28 is a half of the last that stays
+    let q = (p - 0x3fe0_0000_0000_0000 + 0x1000_0000) / 0x2000_0000;
+    let s = q * q;
+    // Origin: 2^23
+    let m = n * 0x80_0000;
+    if m + q <= s {
+        return 0;
+    }
+    if s + q < m {
+        return 0;
+    }
+    q
+}
+
+// The digits of an f32 with the pattern b, twice where the exponent's field is even.
+fn even_digits32(b: u32) -> u32
+    ensures { λ n. ⌜ n ≡ (b % 2 ^ 23 + 2 ^ 23) * 2 ^ (1 - b / 2 ^ 23 % 2) ⌝ }
+{
+    let m = b % 0x80_0000 + 0x80_0000;
+    if b / 0x80_0000 % 2 == 1 {
+        return m;
+    }
+    m * 2
+}
+
+// As an f64, the value of an f32 with the pattern b times or over a power of 4, from 1 to 4; of what has no root, or is too small, any number.
+fn scaled32(b: u32) -> f64 {
+    // Origin: the digits and the last of the exponent's field, 2^24; 29 digits more, and the field 1023 or 1024
+    f64::from_bits(
+        ((b % 0x100_0000 + 0x80_0000) % 0x100_0000) as u64 * 0x2000_0000 + 0x3ff0_0000_0000_0000,
+    )
+}
+
+// The square root of x, to the nearest f32.
+pub fn sqrt32(x: f32) -> f32
+    ensures { λ r. ⌜ r ≡ sqrtOf binary32 x ⌝ }
+{
+    if x != x {
+        return x;
+    }
+    let b = f32::to_bits(x);
+    // Origin: the exponent's field, with the sign; 255 is that of infinities and NaNs
+    let e = b / 0x80_0000;
+    if e == 0 {
+        return sqrt32_by_digits(x);
+    }
+    if e >= 255 {
+        return sqrt32_by_digits(x);
+    }
+    let g = guess_root(scaled32(b));
+    let q = root_digits32(even_digits32(b) as u64, g.root);
+    if q == 0 {
+        return sqrt32_by_digits(x);
+    }
+    // Origin: the exponent is e - 1 + 149, of which 23 are in n * 2^23
+    assemble32(false, q as u32, (e + 125) / 2)
 }
 
 // ---- signs and kinds
@@ -470,18 +616,36 @@ pub fn powi4(x: f32) -> f32
 
 // ---- remainder
 
-// The remainder, plus the modulus where negative; -0 stays.
+// r, plus the modulus where r is negative.
+fn raised32(r: f32, m: f32) -> f32
+    ensures { λ v. ⌜ v ≡ cond (lt r +0) (add binary32 r m) r ⌝ }
+{
+    if r < 0.0 { r + m } else { r }
+}
+
+// The same of f64 values.
+fn raised64(r: f64, m: f64) -> f64
+    ensures { λ v. ⌜ v ≡ cond (lt r +0) (add binary64 r m) r ⌝ }
+{
+    if r < 0.0 { r + m } else { r }
+}
+
+// The remainder, plus the modulus where negative; -0 stays. Between m and -m the remainder is x.
 pub fn rem_euclid32(x: f32, m: f32) -> f32
     ensures { λ r. ⌜ r ≡ remEuclidOf binary32 x m ⌝ }
 {
-    let r = x % m;
-    if r < 0.0 { r + m } else { r }
+    if (x < m) & (x > -m) {
+        return raised32(x, m);
+    }
+    raised32(x % m, m)
 }
 
 // The same of f64 values.
 pub fn rem_euclid64(x: f64, m: f64) -> f64
     ensures { λ r. ⌜ r ≡ remEuclidOf binary64 x m ⌝ }
 {
-    let r = x % m;
-    if r < 0.0 { r + m } else { r }
+    if (x < m) & (x > -m) {
+        return raised64(x, m);
+    }
+    raised64(x % m, m)
 }

@@ -1,39 +1,27 @@
 -- The remainder by 2·pi: of a value inside ±2·pi it is the value; of every finite value it is at most 2·pi in size, and its quotient by pi/2 at most 4. Assumes nothing.
-use mathlib.Core.Path.{_≡_, sym, ap, _∙_, subst}
+use mathlib.Core.Path.{_≡_, sym, subst}
 use Prim.Native.Nat.{ℕ, _*_, _%_, _^_, _≤_, _<_}
-use native.Mathlib.Nat.{le-trans, le-of-eq, le-of-lt, mul-pos, mul-comm, mul-assoc, mul-le-mul-right, mod-lt, mod-eq-of-lt}
+use native.Mathlib.Nat.{le-trans, le-of-eq, le-of-lt, mul-pos, mul-assoc, mul-le-mul-right, mod-lt}
 use native.Mathlib.Omega.{arith}
 use mathlib.Core.Bool.{Bool, true, false, _&&_, _||_}
-use lib.IntN.{ℤ}
 use lib.Dec.{T, ltb, eqb, lit<, ltb→lt, eqb→eq}
 use lib.Ieee.{Float, nan, inf, fin, binary64, up, down, unlike, round, neg, div, rem, lt, le, fits, ofBits}
 use lib.Ieee.Fits.{down-pos}
 use lib.Ieee.Order.{round-mono}
-use lib.Ieee.Scale.{round-same}
 use Rattle.ieee.specs.Values.{abs, isFinite}
 use Rattle.trig.specs.Pi.{twoPi, halfPi}
 use Rattle.trig.specs.Sine.{4·0, remainder, quotient}
-use Rattle.trig.proofs.Rounded.{round-own, abs-round}
+use Rattle.ieee.proofs.Remainder.{rem-inside}
+use Rattle.trig.proofs.Rounded.{abs-round}
 
 -- pi's float is N ÷ 2^48
 abbrev N : ℕ
 N = 884279719003555
 
 -- ---- a value inside ±2·pi
-inside : (s : Bool) (m : ℕ) (e : ℤ) → lt (fin s m e) twoPi ≡ true → lt (neg twoPi) (fin s m e) ≡ true → m * up e * 2 ^ 47 < N * down e
-unfolding lt neg ofBits
-inside false m e h k = ltb→lt (m * up e * 2 ^ 47) (N * 1 * down e) (subst T (sym h) tt)
-inside true m e h k = ltb→lt (m * up e * 2 ^ 47) (N * 1 * down e) (subst T (sym k) tt)
-
 pub remainder-inside : (v : Float) → T (fits binary64 v) → lt v twoPi ≡ true → lt (neg twoPi) v ≡ true → v ≡ remainder v
-unfolding lt neg ofBits remainder rem
-remainder-inside nan p h k = absurd (subst T (sym h) tt)
-remainder-inside (inf true) p h k = absurd (subst T (sym k) tt)
-remainder-inside (inf false) p h k = absurd (subst T (sym h) tt)
-remainder-inside (fin s m e) p h k =
-    sym (ap (λ (n : ℕ). round binary64 s n (down e * 2 ^ 47)) (mod-eq-of-lt (inside s m e h k))
-    ∙ round-same binary64 s (m * up e * 2 ^ 47) (down e * 2 ^ 47) (m * up e) (down e) (mul-pos (down-pos e) (lit< tt)) (down-pos e) (mul-assoc (m * up e) (2 ^ 47) (down e) ∙ ap (λ (n : ℕ). m * up e * n) (mul-comm (2 ^ 47) (down e)))
-    ∙ round-own binary64 s m e p)
+unfolding remainder
+remainder-inside v p h k = rem-inside binary64 v twoPi p h k
 
 -- ---- every finite value
 -- 0 ≤ a ÷ c ≤ b ÷ d, as `le` compares them

@@ -6,6 +6,7 @@ ghost use Rattle.ieee.specs.Values.{abs};
 ghost use Rattle.trig.specs.Series.{sumOf};
 ghost use Rattle.trig.specs.Sine.{4·0, remainder, nearestWhole, mod4, sineCoefficients, cosineCoefficients, sinOf, cosOf, sin32Of, cos32Of};
 ghost use Rattle.trig.specs.Arctangent.{arctangentCoefficients, halvedOf, atanOf, ratioOf, firstQuadrantOf, withSignOfX, withSignOfY, atan2Of};
+use ieee::Guess;
 
 // Origin: document 01, "Number work": the 64-bit float nearest pi, 400921fb54442d18.
 pub const PI64: f64 = 3.141592653589793;
@@ -256,18 +257,49 @@ fn arctangent_sum(z: f64) -> f64
     A0 + z * a1
 }
 
-// One of A's three steps, which halve the angle. Origin of 1.0: document 01, q / (1 + sqrt(1 + q q)).
-fn halved(q: f64) -> f64
-    ensures { λ r. ⌜ r ≡ halvedOf q ⌝ }
-{
-    q / (1.0 + ieee::sqrt64(1.0 + q * q))
+// A guess at the root of A's second step, one over the cosine of half the angle, from c, near the cosine of the angle.
+// Origin: the polynomials nearest to the root and to half of its inverse for a c from cos(pi / 4) to 1, within 2e-10, in d, the distance from the middle; any numbers serve, since the root is checked.
+fn second_guess(c: f64) -> Guess {
+    let d = c - 0.8535533905932737;
+    let e = d * d;
+    let root = 1.03875337475 - 0.280205952449 * d
+        + e * (0.1133792366347 - 0.0509726424909 * d)
+        + e * e * (0.0240621858 - 0.0117933104 * d + e * 0.005840984);
+    let slope = 0.48134620986511 + 0.1298441721390 * d
+        - e * (0.0175128084946 - 0.0047240587952 * d)
+        - e * e * (0.0016007975 - 0.0006067408 * d);
+    ieee::guess_of(root, root, slope)
 }
 
-// A(q). Origin of 8.0: document 01, 8 (q times the sum), after three halvings.
+// The same for the third step, of a quarter of the angle.
+// Origin: the same of one over the cosine of a quarter of the angle.
+fn third_guess(c: f64) -> Guess {
+    let d = c - 0.8535533905932737;
+    let e = d * d;
+    let root = 1.00945944364044 - 0.0667819493983 * d
+        + e * (0.0156342644610 - 0.0049480327835 * d)
+        + e * e * (0.0018119258 - 0.0007177334 * d);
+    let slope = 0.495314599481495 + 0.0327681064393 * d
+        - e * (0.0055035176239 - 0.0015562774094 * d)
+        - e * e * (0.0005382283 - 0.0002061300 * d);
+    ieee::guess_of(root, root, slope)
+}
+
+// One of A's three steps, which halve the angle, with a guess at the root. Origin of 1.0: document 01, q / (1 + sqrt(1 + q q)).
+fn halved(q: f64, g: Guess) -> f64
+    ensures { λ r. ⌜ r ≡ halvedOf q ⌝ }
+{
+    q / (1.0 + ieee::sqrt64_near(1.0 + q * q, g))
+}
+
+// A(q). Origin of 8.0: document 01, 8 (q times the sum), after three halvings. The guesses are good for a q from -1 to 1.
 pub fn atan(q: f64) -> f64
     ensures { λ r. ⌜ r ≡ atanOf q ⌝ }
 {
-    let h = halved(halved(halved(q)));
+    let g = ieee::guess_root(1.0 + q * q);
+    // the slope is half of the cosine
+    let c = g.slope * 2.0;
+    let h = halved(halved(halved(q, g), second_guess(c)), third_guess(c));
     8.0 * (h * arctangent_sum(h * h))
 }
 

@@ -1,11 +1,12 @@
 -- `ieee::narrow` meets its contract: a value's fields give its fraction, and `pack32` rounds it. Assumes nothing.
 use mathlib.Core.Path.{_≡_, sym, ap, _∙_, subst}
 use mathlib.Core.Bool.{Bool, true, false, not}
-use Prim.Native.Nat.{ℕ, _*_, _^_, _<_}
+use Prim.Native.Nat.{ℕ, _+_, _-_, _*_, _/_, _%_, _^_, _<_}
+use native.Mathlib.Omega.{arith}
 use borrow.Author.Needs.{needs}
-use lib.Dec.{T}
+use lib.Dec.{T, leb}
 use lib.Pow.{pow-pos}
-use lib.Ieee.{Float, nan, inf, fin, binary32, binary64, up, down, round, fits, div, neg, ofBits, isNan}
+use lib.Ieee.{Float, nan, inf, fin, binary32, binary64, up, down, round, fits, div, neg, ofBits, toBits, isNan}
 use lib.Ieee.Fits.{down-pos}
 use lib.Ieee.Exact.{HasValue}
 use lib.Ieee.Scale.{round-same}
@@ -47,6 +48,18 @@ float-to-bits-b c = real c
 pack32-requires : tie.Need-pack32-requires
 pack32-requires c κs = search needs
 
+add-pack32-normal : tie.Need-add-pack32-normal
+add-pack32-normal c = search needs
+
+sub-pack32-normal : tie.Need-sub-pack32-normal
+sub-pack32-normal c = search needs
+
+cast-pack32-normal : tie.Need-cast-pack32-normal
+cast-pack32-normal c = search needs
+
+pack32-normal-requires : tie.Need-pack32-normal-requires
+pack32-normal-requires c κs = search needs
+
 add-pack32 : tie.Need-add-pack32
 add-pack32 c = search needs
 
@@ -78,8 +91,19 @@ returns-4 c =
 
 returns-5 : tie.Need-returns-5
 returns-5 c =
-    let a = c .before .before .before .before in
-    c .pack322 .ensures ∙ by-value (a .args .x) _ _ (2 ^ 1074) (pow-pos 1074) (value-mid binary64 (a .args .x) (held a) (c .before .if4 .left) (c .before .before .if2 .left))
+    let a = c .before .before .before .before .before in
+    let b = toBits binary64 (a .args .x) in
+    c .pack32-normal .ensures
+    ∙ ap (λ (k : ℕ). round binary32 (leb (2 ^ 63) b) ((b % 2 ^ 52 + 2 ^ 52) * 2 ^ k) (2 ^ 1074)) (sum (b % 2 ^ 63 / 2 ^ 52) (c .before .if5 .taken))
+    ∙ by-value (a .args .x) _ _ (2 ^ 1074) (pow-pos 1074) (value-mid binary64 (a .args .x) (held a) (c .before .before .if4 .left) (c .before .before .before .if2 .left))
+  where
+    sum : (e : ℕ) → 896 < e → e - 897 + 896 ≡ e - 1
+    sum e h = omega arith
+
+returns-6 : tie.Need-returns-6
+returns-6 c =
+    let a = c .before .before .before .before .before in
+    c .pack322 .ensures ∙ by-value (a .args .x) _ _ (2 ^ 1074) (pow-pos 1074) (value-mid binary64 (a .args .x) (held a) (c .before .before .if4 .left) (c .before .before .before .if2 .left))
 
 pub narrow-spec : {M : Type 1} → statement M
 narrow-spec =
@@ -88,6 +112,10 @@ narrow-spec =
     returns
     float-to-bits-b
     pack32-requires
+    add-pack32-normal
+    sub-pack32-normal
+    cast-pack32-normal
+    pack32-normal-requires
     add-pack32
     sub-pack32
     cast-pack32
@@ -95,4 +123,5 @@ narrow-spec =
     returns-2
     returns-3
     returns-4
-    returns-5)
+    returns-5
+    returns-6)

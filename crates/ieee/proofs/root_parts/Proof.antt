@@ -133,14 +133,14 @@ add-d c = search needs
 sub-d : tie.Need-sub-d
 sub-d c = let s = zs c in omega arith
 
-cast-root-digits : tie.Need-cast-root-digits
-cast-root-digits c = let s = zs c in omega arith
+cast-root-by-digits : tie.Need-cast-root-by-digits
+cast-root-by-digits c = let s = zs c in omega arith
 
-shl-root-digits : tie.Need-shl-root-digits
-shl-root-digits c = let s = zs c in omega arith
+shl-root-by-digits : tie.Need-shl-root-by-digits
+shl-root-by-digits c = let s = zs c in omega arith
 
-root-digits-requires : tie.Need-root-digits-requires
-root-digits-requires c κs = le-trans (al c .0) (le-of-eq (sym (same c)))
+root-by-digits-requires : tie.Need-root-by-digits-requires
+root-by-digits-requires c κs = le-trans (al c .0) (le-of-eq (sym (same c)))
 
 mul-round-shift : tie.Need-mul-round-shift
 mul-round-shift c = search needs
@@ -171,7 +171,7 @@ add-t25 c = search needs
 
 returns : tie.Need-returns
 returns c =
-    let g = c .before .before .before .root-digits in
+    let g = c .before .before .before .root-by-digits in
     let e = g .ensures in
     let z0 : g .result .rem ≡ 0 = c .before .if1 .taken in
     final (c .before .before .before .before) (g .result .root) (g .result .rem) 0 (c .round-shift .result) (e .0) (e .1) (e .2) (e .3) ((λ _. refl), (λ h. absurd (none (g .result .rem) z0 h))) (omega arith)
@@ -182,7 +182,7 @@ returns c =
 
 returns-2 : tie.Need-returns-2
 returns-2 c =
-    let g = c .before .before .before .root-digits in
+    let g = c .before .before .before .root-by-digits in
     let e = g .ensures in
     let z0 : g .result .rem ≡ 0 → ⊥ = c .before .if1 .left in
     final (c .before .before .before .before) (g .result .root) (g .result .rem) 1 (c .round-shift2 .result) (e .0) (e .1) (e .2) (e .3) ((λ h. absurd (z0 h)), (λ _. refl)) (omega arith) (c .round-shift2 .ensures)
@@ -196,9 +196,9 @@ root-parts-spec =
     sub-c
     add-d
     sub-d
-    cast-root-digits
-    shl-root-digits
-    root-digits-requires
+    cast-root-by-digits
+    shl-root-by-digits
+    root-by-digits-requires
     mul-round-shift
     add-round-shift
     round-shift-requires

@@ -4,7 +4,7 @@ use lib.Dec.{T}
 use lib.Ieee.{neg, lt}
 use Rattle.trig.specs.Pi.{twoPi}
 use Rattle.trig.specs.Sine.{remainder}
-use Rattle.trig.proofs.Branches.{both-left, both-right}
+use Rattle.ieee.proofs.Remainder.{both-left, both-right}
 use Rattle.trig.proofs.Remainder.{remainder-inside}
 use Rattle.trig.proofs.rem_two_pi.Statement.{statement}
 use Rattle.trig.proofs.rem_two_pi.Tie as tie
