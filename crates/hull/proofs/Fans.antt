@@ -25,8 +25,7 @@ use Rattle.order.specs.Order.{sortedOf}
 use Rattle.order.specs.Front.{sortedIn}
 use Rattle.order.proofs.Insertion.{length-sorted, sorted-filled}
 use Rattle.hull.specs.Triplets.{eps, point, others, height, coplanar, basisU, angleIn, fan, adjacent, inFan}
-use Rattle.hull.specs.Steps.{isOther, planeOf, isCoplanar, coplanarOf, below54, angleOf, spotOf, noSpot, spotsOf, posOf, fanOf, fanTest}
-use Rattle.hull.specs.declared.Numbers.{Numbers}
+use Rattle.hull.specs.Steps.{Numbers, isOther, planeOf, isCoplanar, coplanarOf, below54, angleOf, spotOf, noSpot, spotsOf, posOf, fanOf, fanTest}
 use Rattle.hull.proofs.Reading.{height-in}
 
 -- ---- the numbers below p that pass a test

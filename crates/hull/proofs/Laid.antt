@@ -97,6 +97,21 @@ module _ (l : List Triplet) (t : Triplet) (h : length l < 80) where
   unfolding flatMap inversesOf
   inverses-more = inverses-with 9 (omega arith) ∙ rw (between-none 9 9 (omega arith)) (append-nil _)
 
+-- ---- one triplet more: below 80 both arrays take it; else only the mark is set
+
+module _ (h : Hull) (i j k : ℕ) (m : List Float) where
+  pub put-more : h .count < 80
+      → _≡_ {A = Hull}
+      (record { idx = sets (h .idx) (h .count * 3) (i ∷ j ∷ k ∷ []); inv = inversesWith (h .inv) (h .count) m 9; count = h .count + 1; over = h .over; enclosed = h .enclosed })
+      (putOf h i j k m)
+  unfolding putOf
+  put-more e = rw (lt-ltb (h .count) 80 e) refl
+
+  pub put-full : 80 ≤ h .count
+      → _≡_ {A = Hull} (record { idx = h .idx; inv = h .inv; count = h .count; over = true; enclosed = h .enclosed }) (putOf h i j k m)
+  unfolding putOf
+  put-full e = rw (le-ltb (h .count) 80 e) refl
+
 -- ---- the hull of the verdicts so far
 
 unfoldable pub laidOf : ℕ → List Verdict → Hull

@@ -20,7 +20,6 @@ use Rattle.hull.specs.Triplets.{Plane, tiny, eps, leastDistance, point, 
 use Rattle.hull.specs.declared.Sides.{Sides}
 use Rattle.hull.specs.declared.Face.{Face}
 use Rattle.hull.specs.declared.Face.the-variants.{Skip, Open, Outward}
-use Rattle.hull.specs.declared.Numbers.{Numbers}
 use Rattle.hull.specs.declared.Hull.{Hull}
 
 -- ---- the face tests
@@ -67,6 +66,14 @@ faceOf pts i j k =
 
 unfoldable pub isCoplanar : List Float → ℕ → ℕ → ℕ → Vector → Float → ℕ → Bool
 isCoplanar flat i j k nrm d p = isOther i j k p && le (neg eps) (heightIn flat nrm d p)
+
+-- the numbers of points in one plane: an array, and how many places of it are used
+pub record Numbers : Type 0 where
+  pub at : List ℕ
+  pub count : ℕ
+
+abbrev pub numbersIn : List ℕ → ℕ → Numbers
+numbersIn l n = record { at = l; count = n }
 
 unfoldable pub coplanarOf : Points → Vector → Float → List ℕ → Numbers
 coplanarOf pts nrm d ps = let l = coplanar pts (planeOf nrm d) ps in record { at = filled 54 0 l; count = length l }

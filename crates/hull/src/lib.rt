@@ -3,12 +3,12 @@ ghost use mathlib.Core.Path.{_≡_};
 ghost use mathlib.Core.List.{[], _∷_};
 ghost use Prim.Native.Nat.{_*_, _≤_, _<_};
 ghost use lib.Dec.{ltb};
-ghost use lib.ListN.{take};
+ghost use lib.ListN.{take, replicate};
 ghost use lib.Seq.{sets};
 ghost use Rattle.lists.specs.Lists.{part, every};
 ghost use Rattle.vector.specs.Vector.{pointsIn};
 ghost use Rattle.hull.specs.Triplets.{others, rawNormal, helper, basisU, adjacent, determinantOf};
-ghost use Rattle.hull.specs.Steps.{isOther, pointIn, heightIn, besideOf, sidesOf, facing, faceOf, isCoplanar, coplanarOf, below54, angleOf, spotOf, spotsOf, posOf, fanOf, fanTest, rowOf, inverseBy, inversesWith, putOf, tiledOf};
+ghost use Rattle.hull.specs.Steps.{isOther, pointIn, heightIn, besideOf, sidesOf, facing, faceOf, isCoplanar, numbersIn, coplanarOf, below54, angleOf, spotOf, spotsOf, posOf, fanOf, fanTest, rowOf, inverseBy, inversesWith};
 ghost use Rattle.hull.specs.Flat.{hullOf};
 use order::Spot;
 
@@ -41,12 +41,6 @@ pub enum Face {
     Open,
     // a face: its outward normal, and its distance from the origin along that
     Outward { x: f64, y: f64, z: f64, d: f64 },
-}
-
-// The numbers of points in one plane.
-pub struct Numbers {
-    pub at: [usize; 54],
-    pub count: usize,
 }
 
 // The triplets of a hull laid flat (the source's `tris`), whether there were more than 80, and whether they tile the sphere (the source's `tiled`).
@@ -197,7 +191,7 @@ fn is_coplanar(
     is_other(i, j, k, p) & (height(pts, nrm, d, p) >= -EPS)
 }
 
-// Those of the first n points that are coplanar with the triple.
+// Those of the first n points that are coplanar with the triple, in a blank array; how many there are.
 fn coplanar(
     pts: &[f64; 162],
     n: usize,
@@ -206,11 +200,11 @@ fn coplanar(
     k: usize,
     nrm: [f64; 3],
     d: f64,
-) -> Numbers
-    requires { ⌜ n ≤ 54 ⌝ }
-    ensures { λ r. ⌜ r ≡ coplanarOf (pointsIn n (now (pts .entry))) nrm d (others n i j k) ⌝ }
+    at: &mut [usize; 54],
+) -> usize
+    requires { ⌜ (n ≤ 54) × (now at ≡ replicate 54 0) ⌝ }
+    ensures { λ r. ⌜ numbersIn (now (at .exit)) r ≡ coplanarOf (pointsIn n (now (pts .entry))) nrm d (others n i j k) ⌝ }
 {
-    let mut at = [0usize; 54];
     let mut count = 0;
     for p in 0..n {
         if !is_coplanar(pts, i, j, k, nrm, d, p) {
@@ -219,7 +213,7 @@ fn coplanar(
         at[count] = p;
         count += 1;
     }
-    Numbers { at, count }
+    count
 }
 
 // Whether i is below the first m of the numbers.
@@ -352,9 +346,8 @@ fn in_fan(pts: &[f64; 162], n: usize, i: usize, j: usize, k: usize, nrm: [f64; 3
     requires { ⌜ (n ≤ 54) × (i < j) × (j < k) × (k < n) ⌝ }
     ensures { λ r. ⌜ r ≡ fanTest (pointsIn n (now (pts .entry))) i j k nrm d ⌝ }
 {
-    let c = coplanar(pts, n, i, j, k, nrm, d);
-    let at = c.at;
-    let m = c.count;
+    let mut at = [0usize; 54];
+    let m = coplanar(pts, n, i, j, k, nrm, d, &mut at);
     if m == 0 {
         return true;
     }
@@ -408,61 +401,24 @@ fn inverse(pts: &[f64; 162], i: usize, j: usize, k: usize, det: f64) -> [f32; 9]
 }
 
 // The numbers of triplet t stored.
-fn put_numbers(idx: [u8; 240], t: usize, i: usize, j: usize, k: usize) -> [u8; 240]
+fn put_numbers(to: &mut [u8; 240], t: usize, i: usize, j: usize, k: usize)
     requires { ⌜ (t < 80) × (i < 256) × (j < 256) × (k < 256) ⌝ }
-    ensures { λ r. ⌜ r ≡ sets idx (t * 3) (i ∷ j ∷ k ∷ []) ⌝ }
+    ensures { λ _. ⌜ now (to .exit) ≡ sets (now (to .entry)) (t * 3) (i ∷ j ∷ k ∷ []) ⌝ }
 {
-    let mut a = idx;
     let at = t * 3;
-    a[at] = i as u8;
-    a[at + 1] = j as u8;
-    a[at + 2] = k as u8;
-    a
+    to[at] = i as u8;
+    to[at + 1] = j as u8;
+    to[at + 2] = k as u8;
 }
 
 // The inverse of triplet t stored, entry e at e * 80 + t.
-fn put_inverse(inv: [f32; 720], t: usize, m: [f32; 9]) -> [f32; 720]
+fn put_inverse(to: &mut [f32; 720], t: usize, m: [f32; 9])
     requires { ⌜ t < 80 ⌝ }
-    ensures { λ r. ⌜ r ≡ inversesWith inv t m 9 ⌝ }
+    ensures { λ _. ⌜ now (to .exit) ≡ inversesWith (now (to .entry)) t m 9 ⌝ }
 {
-    let mut a = inv;
     for e in 0..9usize {
-        a[e * 80 + t] = m[e];
+        to[e * 80 + t] = m[e];
     }
-    a
-}
-
-// One triplet more, or the note that there are more than 80.
-fn put(h: Hull, i: usize, j: usize, k: usize, m: [f32; 9]) -> Hull
-    requires { ⌜ (i < 256) × (j < 256) × (k < 256) ⌝ }
-    ensures { λ r. ⌜ r ≡ putOf h i j k m ⌝ }
-{
-    let t = h.count;
-    if t < 80 {
-        let a = h.idx;
-        let b = h.inv;
-        let idx = put_numbers(a, t, i, j, k);
-        let inv = put_inverse(b, t, m);
-        return Hull {
-            idx,
-            inv,
-            count: t + 1,
-            over: h.over,
-            enclosed: h.enclosed,
-        };
-    }
-    let mut g = h;
-    g.over = true;
-    g
-}
-
-// A hull with no triplet does not tile the sphere.
-fn tiled(h: Hull) -> Hull
-    ensures { λ r. ⌜ r ≡ tiledOf h ⌝ }
-{
-    let mut g = h;
-    g.enclosed = h.enclosed & !(h.count == 0);
-    g
 }
 
 // The faces of the hull of the first n points that can span a source cone, in the order of their numbers.
@@ -498,9 +454,18 @@ pub fn hull_triplets(pts: &[f64; 162], n: usize) -> Hull
                 if ieee::abs64(det) < TINY {
                     continue 'third;
                 }
-                h = put(h, i, j, k, inverse(pts, i, j, k, det));
+                let t = h.count;
+                if 80 <= t {
+                    h.over = true;
+                    continue 'third;
+                }
+                let m = inverse(pts, i, j, k, det);
+                put_numbers(&mut h.idx, t, i, j, k);
+                put_inverse(&mut h.inv, t, m);
+                h.count = t + 1;
             }
         }
     }
-    tiled(h)
+    h.enclosed = h.enclosed & !(h.count == 0);
+    h
 }

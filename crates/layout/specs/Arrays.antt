@@ -5,6 +5,7 @@ use mathlib.Core.Option.{Option, none, some}
 use mathlib.Core.Path.{_≡_}
 use mathlib.Core.Bool.{true}
 use lib.Dec.{ltb}
+use lib.Ieee.{Float}
 use lib.ListN.{length, set, replicate}
 use lib.Seq.{sets}
 use Rattle.lists.specs.Lists.{filled, every}
@@ -17,6 +18,9 @@ use Rattle.panner.specs.declared.VbapPanner.{VbapPanner}
 use Rattle.layout.specs.declared.Active.{Active}
 
 -- ---- active speakers: slots, three numbers a direction, and how many; 0 and +0 in the places that they leave. Origin of 40: document 01, refusal 2; of 120: three numbers for each of 40.
+
+abbrev pub heldIn : List ℕ → List Float → ℕ → Active
+heldIn out dir n = record { out = out; dir = dir; count = n }
 
 unfoldable pub activeIn : List Speaker → Active
 activeIn act = record { out = filled 40 0 (slotsOf act); dir = filled 120 +0 (flatMap (λ d. d) (dirsOf act)); count = length act }

@@ -8,7 +8,7 @@ ghost use Rattle.ieee.specs.Narrow.{narrowOf};
 ghost use Rattle.vector.specs.Vector.{pointsIn};
 ghost use Rattle.layout.specs.Layout.{speakerAt, levelAt, newOf};
 ghost use Rattle.layout.specs.Answers.{refusedBy, builtOf, hullBuiltOf};
-ghost use Rattle.layout.specs.Arrays.{activeIn, speakersOf, Holds, putOf, nextOf, blankOf};
+ghost use Rattle.layout.specs.Arrays.{heldIn, activeIn, speakersOf, Holds, putOf, nextOf, blankOf};
 ghost use Rattle.vector.specs.Speakers.{slotsOf};
 ghost use Rattle.planar.specs.Planar.{pairsOf};
 ghost use Rattle.panner.specs.Shape.{silent, mono, planar};
@@ -52,38 +52,42 @@ fn is_lfe(lfe: &[usize], i: usize) -> bool
     false
 }
 
-// With one speaker more.
-fn put(act: Active, slot: u8, u: [f64; 3]) -> Active
-    requires { ⌜ act .count < 40 ⌝ }
-    ensures { λ r. ⌜ r ≡ putOf act slot u ⌝ }
+// One speaker more behind n.
+fn put(out: &mut [u8; 40], dir: &mut [f64; 120], n: usize, slot: u8, u: [f64; 3])
+    requires { ⌜ n < 40 ⌝ }
+    ensures { λ _. ⌜ heldIn (now (out .exit)) (now (dir .exit)) (n + 1) ≡ putOf (heldIn (now (out .entry)) (now (dir .entry)) n) slot u ⌝ }
 {
-    let mut next = act;
-    let n = act.count;
     let k = n * 3;
-    next.out[n] = slot;
-    next.dir[k] = u[0];
-    next.dir[k + 1] = u[1];
-    next.dir[k + 2] = u[2];
-    next.count = n + 1;
-    next
+    out[n] = slot;
+    dir[k] = u[0];
+    dir[k + 1] = u[1];
+    dir[k + 2] = u[2];
 }
 
-// With the speaker in slot i, where it is active.
-fn next(act: Active, positions: &[f32], lfe: &[usize], i: usize) -> Active
-    requires { ⌜ (act .count < 40) × (i < 40) × (i * 3 + 3 ≤ length (now positions)) ⌝ }
-    ensures { λ r. ⌜ r ≡ nextOf act (speakerAt (now (positions .entry)) (now (lfe .entry)) i) ⌝ }
+// The speaker in slot i behind n, where it is active; how many there are then.
+fn next(
+    out: &mut [u8; 40],
+    dir: &mut [f64; 120],
+    n: usize,
+    positions: &[f32],
+    lfe: &[usize],
+    i: usize,
+) -> usize
+    requires { ⌜ (n < 40) × (i < 40) × (i * 3 + 3 ≤ length (now positions)) ⌝ }
+    ensures { λ r. ⌜ heldIn (now (out .exit)) (now (dir .exit)) r ≡ nextOf (heldIn (now (out .entry)) (now (dir .entry)) n) (speakerAt (now (positions .entry)) (now (lfe .entry)) i) ⌝ }
 {
     if is_lfe(lfe, i) {
-        return act;
+        return n;
     }
     let k = i * 3;
     let p = [positions[k], positions[k + 1], positions[k + 2]];
     let d = vector::unit(p);
     if d.accepted {
         let u = d.dir;
-        return put(act, i as u8, u);
+        put(out, dir, n, i as u8, u);
+        return n + 1;
     }
-    act
+    n
 }
 
 // The active speakers among the first `outputs`.
@@ -91,23 +95,21 @@ fn active_speakers(positions: &[f32], lfe: &[usize], outputs: usize) -> Active
     requires { ⌜ (outputs ≤ 40) × (outputs * 3 ≤ length (now positions)) ⌝ }
     ensures { λ r. ⌜ r ≡ activeIn (collect (speakerAt (now (positions .entry)) (now (lfe .entry))) (range outputs)) ⌝ }
 {
-    let mut act = Active {
-        out: [0; 40],
-        dir: [0.0; 120],
-        count: 0,
-    };
+    let mut out = [0u8; 40];
+    let mut dir = [0.0; 120];
+    let mut n: usize = 0;
     let mut i: usize = 0;
     while i < outputs {
-        act = next(act, positions, lfe, i);
+        n = next(&mut out, &mut dir, n, positions, lfe, i);
         i += 1;
     }
-    act
+    Active { out, dir, count: n }
 }
 
 // Whether the first n directions are level: |height| at most the sine of 0.0873.
-fn all_level(dir: [f64; 120], n: usize) -> bool
+fn all_level(dir: &[f64; 120], n: usize) -> bool
     requires { ⌜ n ≤ 40 ⌝ }
-    ensures { λ r. ⌜ r ≡ every levelAt (pointsIn n dir) ⌝ }
+    ensures { λ r. ⌜ r ≡ every levelAt (pointsIn n (now (dir .entry))) ⌝ }
 {
     let most = trig::sin(ieee::widen(PLANAR_MAX_ELEVATION));
     let mut i: usize = 0;
@@ -190,9 +192,8 @@ fn build_planar(outputs: u8, act: Active) -> VbapPanner
     ensures { λ r. ⌜ r ≡ laid (record { outputs = outputs; shape = planar (pairsOf (speakersOf act)) (slotsOf (speakersOf act)) }) ⌝ }
 {
     let slots = act.out;
-    let dir = act.dir;
     let n = act.count;
-    let made = planar::build_planar(slots, dir, n);
+    let made = planar::build_planar(&slots, &act.dir, n);
     let pairs = made.pairs;
     let mut p = blank(outputs, Kind::Planar);
     p.num_pairs = made.num_pairs as u8;
@@ -273,8 +274,7 @@ fn built(outputs: u8, act: Active) -> NewPanner
             imaginary: 0,
         };
     }
-    let dir = act.dir;
-    if all_level(dir, n) {
+    if all_level(&act.dir, n) {
         return NewPanner {
             number: 0,
             panner: build_planar(outputs, act),

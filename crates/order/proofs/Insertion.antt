@@ -7,7 +7,7 @@ use native.Mathlib.Decide.{decLe}
 use native.Mathlib.Nat.{add-zero, min-eq-left, min-eq-right}
 use native.Mathlib.Numerals.{add-one}
 use native.Mathlib.Omega.{arith}
-use lib.ListN.{replicate, length, getD, set, take, drop, length-drop, drop-of-length-le}
+use lib.ListN.{replicate, length, getD, set, take, drop, length-append, length-drop, drop-of-length-le}
 use lib.Seq.{drop-cons, getD-drop, getD-at, paste, paste-suc, length-paste-head, length-take-le, take-at, drop-at, take-add, take-suc, drop-drop, take-all}
 use lib.Ieee.{nan, lt}
 use Rattle.lists.specs.Lists.{position, every, filled}
@@ -126,6 +126,18 @@ opened-inserted a n s h =
 pub sorted-none : (a : List Spot) → a ≡ sortedIn a 0
 unfolding sortedIn sortedOf
 sorted-none a = refl
+
+pub length-sorted-in : (a : List Spot) (q : ℕ) → q ≤ length a → length (sortedIn a q) ≡ length a
+unfolding sortedIn
+length-sorted-in a q h =
+    omega (arith, length-append (sortedOf (take q a)) (drop q a), length-sorted (take q a), length-take-le q a h, length-drop q a)
+
+-- the next one to be inserted is as it was
+pub sorted-next : (a : List Spot) (q : ℕ) → q < length a → getD (sortedIn a q) q noSpot ≡ getD a q noSpot
+unfolding sortedIn
+sorted-next a q h =
+    let g : length (sortedOf (take q a)) ≡ q = omega (arith, length-sorted (take q a), length-take-le q a (omega arith)) in
+    rw (drop-cons a q noSpot h) (getD-at (sortedOf (take q a)) (getD a q noSpot) (drop (suc q) a) noSpot q g)
 
 pub sorted-more : (a : List Spot) (q : ℕ) → q < length a → insertedIn (sortedIn a q) q (getD a q noSpot) ≡ sortedIn a (q + 1)
 unfolding insertedIn sortedIn

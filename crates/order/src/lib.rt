@@ -1,8 +1,7 @@
 // A stable insertion sort by angle.
 ghost use mathlib.Core.Path.{_≡_};
-ghost use Prim.Native.Nat.{_≤_, _<_, min};
-ghost use lib.ListN.{take};
-ghost use Rattle.order.specs.Front.{placeOf, openedOf, insertedIn, sortedIn};
+ghost use Prim.Native.Nat.{min};
+ghost use Rattle.order.specs.Front.{sortedIn};
 
 // An angle and the number of what stands at it.
 pub struct Spot {
@@ -13,45 +12,6 @@ pub struct Spot {
 // Origin: document 01, 40 positions and 14 imaginary points; a fan of coplanar points starts at one of them and sorts the others. A ring has no more than 40.
 const MAX_SPOTS: usize = 53;
 
-// The first of n places whose angle is above the given one, or n.
-fn place_of(a: [Spot; 53], n: usize, angle: f64) -> usize
-    requires { ⌜ n ≤ 53 ⌝ }
-    ensures { λ r. ⌜ r ≡ placeOf angle (take n a) ⌝ }
-{
-    let mut p = 0;
-    while p < n {
-        if angle < a[p].angle {
-            return p;
-        }
-        p += 1;
-    }
-    p
-}
-
-// s at place p, and what stood from p up to n one place on.
-fn opened(a: [Spot; 53], p: usize, n: usize, s: Spot) -> [Spot; 53]
-    requires { ⌜ (p ≤ n) × (n < 53) ⌝ }
-    ensures { λ r. ⌜ r ≡ openedOf a p n s ⌝ }
-{
-    let mut b = a;
-    let mut y = s;
-    for q in 0..n + 1 - p {
-        let z = b[p + q];
-        b[p + q] = y;
-        y = z;
-    }
-    b
-}
-
-// s inserted into the first n spots, before the first whose angle is above its own.
-fn inserted(a: [Spot; 53], n: usize, s: Spot) -> [Spot; 53]
-    requires { ⌜ n < 53 ⌝ }
-    ensures { λ r. ⌜ r ≡ insertedIn a n s ⌝ }
-{
-    let p = place_of(a, n, s.angle);
-    opened(a, p, n, s)
-}
-
 // The lesser of n and 53.
 fn capped(n: usize) -> usize
     ensures { λ r. ⌜ r ≡ min n 53 ⌝ }
@@ -60,15 +20,28 @@ fn capped(n: usize) -> usize
 }
 
 // The first n spots in ascending order of their angles, equals in the order in which they stand; the others stay.
+// Spot q goes before the first of those sorted so far whose angle is above its own, and what stood from there up to q one place on.
+// The array is sorted where it stands, by loops in one function: one of spots cannot be lent, and handed on by value it would be copied for each spot.
 pub fn sorted(a: [Spot; 53], n: usize) -> [Spot; 53]
     ensures { λ r. ⌜ r ≡ sortedIn a n ⌝ }
 {
     let m = capped(n);
     let mut b = a;
-    for q in 0..m {
-        let s = a[q];
-        let r = inserted(b, q, s);
-        b = r;
+    'spots: for q in 0..m {
+        let mut y = b[q];
+        let angle = y.angle;
+        let mut p: usize = 0;
+        'place: while p < q {
+            if angle < b[p].angle {
+                break 'place;
+            }
+            p += 1;
+        }
+        'moved: for r in 0..q + 1 - p {
+            let z = b[p + r];
+            b[p + r] = y;
+            y = z;
+        }
     }
     b
 }

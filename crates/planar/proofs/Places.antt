@@ -1,10 +1,10 @@
 -- The ring in its array: one speaker more is one spot more, and the sorted front is the ring. Assumes nothing.
-use Prim.Native.Nat.{ℕ, _+_, _<_}
+use Prim.Native.Nat.{ℕ, _+_, _≤_, _<_}
 use mathlib.Core.Path.{_≡_, refl, sym, ap, _∙_}
 use mathlib.Core.Bool.{true}
 use mathlib.Core.List.{List, [], _∷_, _++_, map}
 use native.Mathlib.Omega.{arith}
-use lib.ListN.{length, set, take, replicate, length-map}
+use lib.ListN.{length, set, take, replicate, length-map, length-take}
 use lib.Ieee.{Float}
 use Rattle.lists.specs.Lists.{every, filled}
 use Rattle.lists.proofs.Tests.{every-snoc}
@@ -60,6 +60,10 @@ module _ (out : List ℕ) (dir : List Float) where
         ap (take n) (g ∙ ap (λ (x : List Spot). sortedIn x n) e ∙ sorted-filled 53 noSpot (spotsIn n) n (length-spots n))
         ∙ ap (λ (k : ℕ). take k (filled 53 noSpot (sortedOf (spotsIn n)))) (sym l)
         ∙ take-filled 53 noSpot (sortedOf (spotsIn n))
+
+    -- so the array has room for it
+    pub ring-fits : {a b : List Spot} → a ≡ filled 53 noSpot (spotsIn n) → b ≡ sortedIn a n → n ≤ length b
+    ring-fits {a} {b} e g = omega (arith, length-take n b, ap length (ring-front e g), length-ring)
 
     pub ring-slots : every slotFits (spotsIn n) ≡ true → every slotFits (ring (speakersIn n out dir)) ≡ true
     unfolding ring

@@ -1,5 +1,6 @@
 -- Document 01, "Layout", the paragraph "Planar": the pairs in an array of 40 places, with their count. Unused places hold 0, +0 or the crossfade. Assumes nothing.
 use Prim.Native.Nat.{ℕ}
+use mathlib.Core.Path.{_≡_}
 use mathlib.Core.Bool.{Bool}
 use mathlib.Core.List.{List}
 use mathlib.Core.Option.{Option, none, some}
@@ -8,6 +9,8 @@ use lib.ListN.{length}
 use lib.Ieee.{Float}
 use Rattle.lists.specs.Lists.{filled}
 use Rattle.ieee.specs.Values.{+0}
+use Rattle.trig.specs.Sine.{sinOf, cosOf}
+use Rattle.trig.specs.declared.SinCos.{SinCos}
 use Rattle.vector.specs.Speakers.{speakersIn}
 use Rattle.order.specs.declared.Spot.{Spot}
 use Rattle.planar.specs.declared.PlanarPair.{PlanarPair}
@@ -23,6 +26,11 @@ noSpot = record { angle = +0; number = 0 }
 -- the spot's number fits the 8 bits of a slot
 unfoldable pub slotFits : Spot → Bool
 slotFits s = ltb (s .number) 256
+
+-- the sine and the cosine of an azimuth
+pub record Turned (az : Float) (t : SinCos) : Type 0 where
+  pub sine : t .sin ≡ sinOf az
+  pub cosine : t .cos ≡ cosOf az
 
 -- the cases of Option as the code has them
 unfoldable pub joinedOf : Option PlanarPair → Joined

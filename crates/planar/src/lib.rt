@@ -3,11 +3,14 @@ ghost use mathlib.Core.Path.{_≡_};
 ghost use mathlib.Core.Bool.{true};
 ghost use mathlib.Core.List.{map};
 ghost use Prim.Native.Nat.{_*_, _+_, _≤_, _<_};
-ghost use lib.ListN.{take};
+ghost use lib.Ieee.{Float};
+ghost use lib.ListN.{length};
 ghost use Rattle.lists.specs.Lists.{every, filled, part};
 ghost use Rattle.vector.specs.Speakers.{speakersIn};
-ghost use Rattle.planar.specs.Planar.{spotOf, ring, gapAt, inverseLaw, lawOf, pairOf, pairAt};
-ghost use Rattle.planar.specs.Arrays.{noSpot, slotFits, joinedOf, planarIn};
+ghost use Rattle.planar.specs.Planar.{spotOf, gapAt, inverseLaw, lawOf, pairOf};
+ghost use Rattle.planar.specs.Arrays.{noSpot, slotFits, Turned, joinedOf, planarIn};
+use order::Spot;
+use trig::SinCos;
 
 // How a planar pair shares its power (document 01: the law): the inverse of its two directions' matrix, row after row, or the crossfade.
 pub enum Law {
@@ -48,32 +51,32 @@ const COINCIDENT: f64 = 1e-6;
 // Just under pi: the 32-bit pi less 1e-3. Origin: vbap.rs line 55; a pair with this gap or more has the crossfade.
 const MAX_VBAP_GAP: f32 = 3.1405928;
 
-// The direction of speaker i.
-fn direction(dir: [f64; 120], i: usize) -> [f64; 3]
-    requires { ⌜ i < 40 ⌝ }
-    ensures { λ r. ⌜ r ≡ part 3 dir i ⌝ }
+// The direction of speaker i. A reference does not tell the proof how long its array is, so the caller says it.
+fn direction(dir: &[f64; 120], i: usize) -> [f64; 3]
+    requires { ⌜ (i < 40) × (length (now dir) ≡ 120) ⌝ }
+    ensures { λ r. ⌜ r ≡ part 3 (now (dir .entry)) i ⌝ }
 {
     [dir[i * 3], dir[i * 3 + 1], dir[i * 3 + 2]]
 }
 
 // The azimuth and the slot of a speaker.
-fn spot(slot: u8, dir: [f64; 3]) -> order::Spot
+fn spot(slot: u8, dir: [f64; 3]) -> Spot
     ensures is { λ r. ⌜ r ≡ spotOf (record { slot = slot; dir = dir }) ⌝ }
     ensures slot { λ r. ⌜ slotFits r ≡ true ⌝ }
 {
-    order::Spot {
+    Spot {
         angle: trig::atan2(dir[0], -dir[2]),
         number: slot as usize,
     }
 }
 
 // The azimuths and slots of n speakers, in slot order.
-fn spots(out: [u8; 40], dir: [f64; 120], n: usize) -> [order::Spot; 53]
-    requires { ⌜ n ≤ 40 ⌝ }
-    ensures are { λ r. ⌜ r ≡ filled 53 noSpot (map spotOf (speakersIn n out dir)) ⌝ }
-    ensures slots { λ r. ⌜ every slotFits (map spotOf (speakersIn n out dir)) ≡ true ⌝ }
+fn spots(out: &[u8; 40], dir: &[f64; 120], n: usize) -> [Spot; 53]
+    requires { ⌜ (n ≤ 40) × (length (now dir) ≡ 120) ⌝ }
+    ensures are { λ r. ⌜ r ≡ filled 53 noSpot (map spotOf (speakersIn n (now (out .entry)) (now (dir .entry)))) ⌝ }
+    ensures slots { λ r. ⌜ every slotFits (map spotOf (speakersIn n (now (out .entry)) (now (dir .entry)))) ≡ true ⌝ }
 {
-    let mut a = [order::Spot {
+    let mut a = [Spot {
         angle: 0.0,
         number: 0,
     }; 53];
@@ -111,30 +114,26 @@ fn inverse_law(ax: f64, az: f64, bx: f64, bz: f64) -> Law
     )
 }
 
-// The law of a pair of azimuths with the gap between them.
-fn law_of(az_a: f64, az_b: f64, gap: f64) -> Law
-    ensures { λ r. ⌜ r ≡ lawOf «az_a» «az_b» gap ⌝ }
+// The law of a pair of azimuths, given by their sines and cosines, with the gap between them.
+fn law_of(a: SinCos, b: SinCos, gap: f64) -> Law
+    ensures { λ r. ⌜ ((azA azB : Float) → Turned azA a → Turned azB b → r ≡ lawOf azA azB gap) ⌝ }
 {
     if ieee::narrow(gap) < MAX_VBAP_GAP {
-        return inverse_law(
-            trig::sin(az_a),
-            -trig::cos(az_a),
-            trig::sin(az_b),
-            -trig::cos(az_b),
-        );
+        return inverse_law(a.sin, -a.cos, b.sin, -b.cos);
     }
     Law::Crossfade
 }
 
-// The pair from spot s to spot t with the gap g; a gap below 1e-6 makes none.
-fn pair_of(g: f64, s: order::Spot, t: order::Spot) -> Joined
+// The pair from spot s to spot t, whose sines and cosines are a and b, with the gap g; a gap below 1e-6 makes none.
+fn pair_of(g: f64, s: Spot, t: Spot, a: SinCos, b: SinCos) -> Joined
     requires { ⌜ (slotFits s ≡ true) × (slotFits t ≡ true) ⌝ }
+    requires { ⌜ Turned (s .angle) a × Turned (t .angle) b ⌝ }
     ensures { λ r. ⌜ r ≡ joinedOf (pairOf g s t) ⌝ }
 {
     if g < COINCIDENT {
         return Joined::Coincident;
     }
-    let law = law_of(s.angle, t.angle, g);
+    let law = law_of(a, b, g);
     Joined::Pair(PlanarPair {
         start: ieee::narrow(s.angle),
         gap: ieee::narrow(g),
@@ -144,24 +143,13 @@ fn pair_of(g: f64, s: order::Spot, t: order::Spot) -> Joined
     })
 }
 
-// The pair from spot i of m to the next, round the ring.
-fn pair_at(a: [order::Spot; 53], m: usize, i: usize) -> Joined
-    requires { ⌜ (i < m) × (m ≤ 40) × (every slotFits (take m a) ≡ true) ⌝ }
-    ensures { λ r. ⌜ r ≡ joinedOf (pairAt (take m a) i) ⌝ }
-{
-    let j = (i + 1) % m;
-    let s = a[i];
-    let t = a[j];
-    pair_of(gap_at(m, i, s.angle, t.angle), s, t)
-}
-
 // The pairs of the ring that n active speakers make: their slots, and three numbers a direction.
-pub fn build_planar(out: [u8; 40], dir: [f64; 120], n: usize) -> Planar
-    requires { ⌜ n ≤ 40 ⌝ }
-    ensures { λ r. ⌜ r ≡ planarIn n out dir ⌝ }
+// The sine and the cosine of each spot serve the pair that ends at it and the one that starts there.
+pub fn build_planar(out: &[u8; 40], dir: &[f64; 120], n: usize) -> Planar
+    requires { ⌜ (n ≤ 40) × (length (now dir) ≡ 120) ⌝ }
+    ensures { λ r. ⌜ r ≡ planarIn n (now (out .entry)) (now (dir .entry)) ⌝ }
 {
-    let l = spots(out, dir, n);
-    let a = order::sorted(l, n);
+    let a = order::sorted(spots(out, dir, n), n);
     let none = PlanarPair {
         start: 0.0,
         gap: 0.0,
@@ -171,8 +159,15 @@ pub fn build_planar(out: [u8; 40], dir: [f64; 120], n: usize) -> Planar
     };
     let mut pairs = [none; 40];
     let mut num_pairs: usize = 0;
+    let first = a[0];
+    let mut here = trig::sin_cos(first.angle);
     for i in 0..n {
-        let joined = pair_at(a, n, i);
+        let j = (i + 1) % n;
+        let s = a[i];
+        let t = a[j];
+        let next = trig::sin_cos(t.angle);
+        let joined = pair_of(gap_at(n, i, s.angle, t.angle), s, t, here, next);
+        here = next;
         let Joined::Pair(p) = joined else {
             continue;
         };

@@ -11,8 +11,6 @@ use Rattle.hull.proofs.Fans.{passed-none, passed-no, passed-yes, few-pa
 use Rattle.hull.proofs.coplanar.Statement.{statement}
 use Rattle.hull.proofs.coplanar.Tie as tie
 
--- `hull::coplanar` meets its contract: the array holds the numbers below p that pass the test, in their order. Assumes nothing.
-
 abbrev Inv-loop : tie.InvT-loop
 Inv-loop pts n i j k nrm d at₀ count₀ p₀ at count p = (p ≤ n) × Gathered 54 0 (filter (isCoplanar pts i j k nrm d) (range p)) at count
 
@@ -20,7 +18,7 @@ abbrev μ-loop : tie.MeasureT-loop
 μ-loop pts n i j k nrm d at₀ count₀ p₀ at count p = n - p
 
 loop-holds : tie.Need-loop-holds Inv-loop μ-loop
-loop-holds c = (zero-le, gathered-same 54 0 (passed-none _) (gathered-none 54 0))
+loop-holds c = (zero-le, rw (c .pre .1) (gathered-same 54 0 (passed-none _) (gathered-none 54 0)))
 
 is-coplanar-requires : tie.Need-is-coplanar-requires Inv-loop μ-loop
 is-coplanar-requires c κs = search needs
@@ -42,8 +40,8 @@ mul-at c =
     let a = b .before .args in
     omega (arith, few-passed (isCoplanar (a .pts .now) (a .i) (a .j) (a .k) (a .nrm) (a .d)) (b .loop .p))
 
-array-write-at : tie.Need-array-write-at Inv-loop μ-loop
-array-write-at c =
+element-write-at : tie.Need-element-write-at Inv-loop μ-loop
+element-write-at c =
     let b = c .before .before .before in
     let a = b .before .args in
     omega (arith, few-passed (isCoplanar (a .pts .now) (a .i) (a .j) (a .k) (a .nrm) (a .d)) (b .loop .p))
@@ -89,7 +87,7 @@ coplanar-spec =
     loop-less
     loop-again
     mul-at
-    array-write-at
+    element-write-at
     add-count
     add-p-2
     loop-less-2

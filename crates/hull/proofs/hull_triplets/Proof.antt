@@ -9,7 +9,7 @@ use Rattle.vector.proofs.Points.{length-points}
 use Rattle.vector.specs.Vector.{pointsIn}
 use Rattle.hull.specs.Steps.{tiledOf}
 use Rattle.hull.specs.Triplets.{verdict, verdicts}
-use Rattle.hull.proofs.Laid.{laidOf, laid-start, tiled-laid}
+use Rattle.hull.proofs.Laid.{laidOf, laid-start, put-full, put-more, tiled-laid}
 use Rattle.hull.proofs.Verdicts.{at-first, at-second, at-third, first-none, second-none, third-none, third-done, second-done, all-verdicts}
 use Rattle.hull.proofs.Turns.{turn-skip, turn-open, turn-out, turn-small, turn-keep}
 use Rattle.hull.proofs.hull_triplets.Statement.{statement}
@@ -135,27 +135,57 @@ third-again-4 c =
     let g = f .before in
     (omega arith, omega arith, omega arith, omega arith, turn-small (g .args .n) (g .args .pts .now) (f .first .i) (s .second .j) (t .third .k) (t .third .inv .0) (t .third .inv .1) (c .before .before .before .before .before .before .before .before .before .third-test .taken) (t .third .h) (t .third .inv .4) _ _ _ _ (sym (c .before .before .before .before .before .before .before .before .face-test .ensures) ∙ c .before .before .before .before .before .before .x .given .1) (sym (c .before .before .before .before .in-fan .ensures) ∙ not-false _ (c .before .before .before .if1 .left)) (rw (← c .before .before .determinant .ensures, ← c .before .abs64 .ensures) (c .if2 .taken)))
 
+add-k-6 : tie.Need-add-k-6 Inv-third μ-third Inv-second μ-second Inv-first μ-first
+add-k-6 c = omega (arith, c .before .before .before .before .before .before .before .before .before .before .third-test .taken)
+
+third-less-5 : tie.Need-third-less-5 Inv-third μ-third Inv-second μ-second Inv-first μ-first
+third-less-5 c = omega (arith, c .before .before .before .before .before .before .before .before .before .before .third-test .taken)
+
+third-again-5 : tie.Need-third-again-5 Inv-third μ-third Inv-second μ-second Inv-first μ-first
+third-again-5 c =
+    let t = c .before .before .before .before .before .before .before .before .before .before .before in
+    let s = t .before .before in
+    let f = s .before .before in
+    let g = f .before in
+    let v = c .before .before .before .before .before .before .before .before .before .before in
+    let w = c .before .before .before in
+    let kept = turn-keep (g .args .n) (g .args .pts .now) (f .first .i) (s .second .j) (t .third .k) (t .third .inv .0) (t .third .inv .1) (v .third-test .taken) (t .third .h) (t .third .inv .4) _ _ _ _ (sym (c .before .before .before .before .before .before .before .before .before .face-test .ensures) ∙ c .before .before .before .before .before .before .before .x .given .1) (sym (c .before .before .before .before .before .in-fan .ensures) ∙ not-false _ (c .before .before .before .before .if1 .left)) (rw (← w .determinant .ensures, ← c .before .before .abs64 .ensures) (c .before .if2 .left)) in
+    (t .third .inv .0, omega (arith, t .third .inv .1), omega (arith, v .third-test .taken), t .third .inv .3, put-full (t .third .h) (f .first .i) (s .second .j) (t .third .k) _ (c .if3 .taken) ∙ kept)
+
 inverse-requires :
     tie.Need-inverse-requires Inv-third μ-third Inv-second μ-second Inv-first μ-first
 inverse-requires c κs = search needs
 
-put-requires : tie.Need-put-requires Inv-third μ-third Inv-second μ-second Inv-first μ-first
-put-requires c κs = search needs
+put-numbers-requires :
+    tie.Need-put-numbers-requires Inv-third μ-third Inv-second μ-second Inv-first μ-first
+put-numbers-requires c κs =
+    let t = c .before .before .before .before .before .before .before .before .before .before .before .before .before in
+    let v = c .before .before .before .before .before .before .before .before .before .before .before .before .third-test .taken in
+    (omega (arith, c .before .before .if3 .left), omega (arith, v, t .third .inv .0, t .third .inv .1, t .third .inv .3), omega (arith, v, t .third .inv .1, t .third .inv .3), omega (arith, v, t .third .inv .3))
 
-add-k-6 : tie.Need-add-k-6 Inv-third μ-third Inv-second μ-second Inv-first μ-first
-add-k-6 c = omega arith
+put-inverse-requires :
+    tie.Need-put-inverse-requires Inv-third μ-third Inv-second μ-second Inv-first μ-first
+put-inverse-requires c κs = omega (arith, c .before .before .before .before .if3 .left)
 
-third-less-5 : tie.Need-third-less-5 Inv-third μ-third Inv-second μ-second Inv-first μ-first
-third-less-5 c = omega arith
+add-h : tie.Need-add-h Inv-third μ-third Inv-second μ-second Inv-first μ-first
+add-h c = omega (arith, c .before .before .before .before .before .if3 .left)
 
-third-again-5 : tie.Need-third-again-5 Inv-third μ-third Inv-second μ-second Inv-first μ-first
-third-again-5 c =
-    let t = c .before .before .before .before .before .before .before .before .before .before .before .before in
+add-k-7 : tie.Need-add-k-7 Inv-third μ-third Inv-second μ-second Inv-first μ-first
+add-k-7 c = omega (arith, c .before .before .before .before .before .before .before .before .before .before .before .before .before .before .before .third-test .taken)
+
+third-less-6 : tie.Need-third-less-6 Inv-third μ-third Inv-second μ-second Inv-first μ-first
+third-less-6 c = omega (arith, c .before .before .before .before .before .before .before .before .before .before .before .before .before .before .before .third-test .taken)
+
+third-again-6 : tie.Need-third-again-6 Inv-third μ-third Inv-second μ-second Inv-first μ-first
+third-again-6 c =
+    let t = c .before .before .before .before .before .before .before .before .before .before .before .before .before .before .before .before in
     let s = t .before .before in
     let f = s .before .before in
     let g = f .before in
-    let w = c .before .before .before .before in
-    (omega arith, omega arith, omega (arith, c .before .before .before .before .before .before .before .before .before .before .before .third-test .taken), omega arith, rw (c .put .ensures, c .before .inverse .ensures, w .determinant .ensures) (turn-keep (g .args .n) (g .args .pts .now) (f .first .i) (s .second .j) (t .third .k) (t .third .inv .0) (t .third .inv .1) (c .before .before .before .before .before .before .before .before .before .before .before .third-test .taken) (t .third .h) (t .third .inv .4) _ _ _ _ (sym (c .before .before .before .before .before .before .before .before .before .before .face-test .ensures) ∙ c .before .before .before .before .before .before .before .before .x .given .1) (sym (w .before .before .in-fan .ensures) ∙ not-false _ (w .before .if1 .left)) (rw (← w .determinant .ensures, ← c .before .before .before .abs64 .ensures) (c .before .before .if2 .left))))
+    let v = c .before .before .before .before .before .before .before .before .before .before .before .before .before .before .before in
+    let w = c .before .before .before .before .before .before .before .before in
+    let kept = turn-keep (g .args .n) (g .args .pts .now) (f .first .i) (s .second .j) (t .third .k) (t .third .inv .0) (t .third .inv .1) (v .third-test .taken) (t .third .h) (t .third .inv .4) _ _ _ _ (sym (c .before .before .before .before .before .before .before .before .before .before .before .before .before .before .face-test .ensures) ∙ c .before .before .before .before .before .before .before .before .before .before .before .before .x .given .1) (sym (c .before .before .before .before .before .before .before .before .before .before .in-fan .ensures) ∙ not-false _ (c .before .before .before .before .before .before .before .before .before .if1 .left)) (rw (← w .determinant .ensures, ← c .before .before .before .before .before .before .before .abs64 .ensures) (c .before .before .before .before .before .before .if2 .left)) in
+    (t .third .inv .0, omega (arith, t .third .inv .1), omega (arith, v .third-test .taken), t .third .inv .3, rw (c .put-inverse .ensures, c .before .before .put-numbers .ensures, c .before .before .before .before .inverse .ensures, w .determinant .ensures) (put-more (t .third .h) (f .first .i) (s .second .j) (t .third .k) _ (c .before .before .before .before .before .if3 .left) ∙ kept))
 
 add-j-2 : tie.Need-add-j-2 Inv-third μ-third Inv-second μ-second Inv-first μ-first
 add-j-2 c = omega arith
@@ -188,17 +218,15 @@ first-again c =
     let h : s .second .h ≡ laidOf (g .args .n) (at-second (verdict (pointsIn (g .args .n) (g .args .pts .now))) (g .args .n) (f .first .i) (g .args .n)) = s .second .inv .3 ∙ ap (λ (m : ℕ). laidOf (g .args .n) (at-second (verdict (pointsIn (g .args .n) (g .args .pts .now))) (g .args .n) (f .first .i) m)) e in
     (omega arith, omega arith, h ∙ ap (laidOf (g .args .n)) (second-done (verdict (pointsIn (g .args .n) (g .args .pts .now))) (g .args .n) (f .first .i)))
 
-tiled-requires : tie.Need-tiled-requires Inv-third μ-third Inv-second μ-second Inv-first μ-first
-tiled-requires c κs = search needs
-
 returns : tie.Need-returns Inv-third μ-third Inv-second μ-second Inv-first μ-first
+unfolding tiledOf
 returns c =
-    let f = c .before .before in
+    let f = c .before in
     let g = f .before in
     let e : f .first .i ≡ g .args .n = omega arith in
     let h : f .first .h ≡ laidOf (g .args .n) (at-first (verdict (pointsIn (g .args .n) (g .args .pts .now))) (g .args .n) (g .args .n)) = f .first .inv .2 ∙ ap (λ (m : ℕ). laidOf (g .args .n) (at-first (verdict (pointsIn (g .args .n) (g .args .pts .now))) (g .args .n) m)) e in
     let l = length-points (g .args .n) (g .args .pts .now) in
-    c .tiled .ensures ∙ ap tiledOf (h ∙ ap (laidOf (g .args .n)) (all-verdicts (g .args .n) (g .args .pts .now)) ∙ ap (λ (m : ℕ). laidOf m (verdicts (pointsIn (g .args .n) (g .args .pts .now)))) (sym l)) ∙ tiled-laid (pointsIn (g .args .n) (g .args .pts .now))
+    ap tiledOf (h ∙ ap (laidOf (g .args .n)) (all-verdicts (g .args .n) (g .args .pts .now)) ∙ ap (λ (m : ℕ). laidOf m (verdicts (pointsIn (g .args .n) (g .args .pts .now)))) (sym l)) ∙ tiled-laid (pointsIn (g .args .n) (g .args .pts .now))
 
 pub hull-triplets-spec : {M : Type 1} → statement M
 hull-triplets-spec =
@@ -234,16 +262,20 @@ hull-triplets-spec =
     add-k-5
     third-less-4
     third-again-4
-    inverse-requires
-    put-requires
     add-k-6
     third-less-5
     third-again-5
+    inverse-requires
+    put-numbers-requires
+    put-inverse-requires
+    add-h
+    add-k-7
+    third-less-6
+    third-again-6
     add-j-2
     second-less
     second-again
     add-i
     first-less
     first-again
-    tiled-requires
     returns)

@@ -9,32 +9,32 @@ use Rattle.hull.proofs.put_inverse.Statement.{statement}
 use Rattle.hull.proofs.put_inverse.Tie as tie
 
 abbrev Inv-loop : tie.InvT-loop
-Inv-loop t m a₀ e₀ a e = (e ≤ 9) × (a ≡ inversesWith a₀ t m e)
+Inv-loop to₀ t m e₀ to e = (e ≤ 9) × (to ≡ inversesWith to₀ t m e)
 
 abbrev μ-loop : tie.MeasureT-loop
-μ-loop t m a₀ e₀ a e = 9 - e
+μ-loop to₀ t m e₀ to e = 9 - e
 
 loop-holds : tie.Need-loop-holds Inv-loop μ-loop
 unfolding inversesWith
 loop-holds c = (omega arith, rw range-none refl)
 
-mul-a : tie.Need-mul-a Inv-loop μ-loop
-mul-a c = omega arith
+mul-to : tie.Need-mul-to Inv-loop μ-loop
+mul-to c = omega arith
 
-array-read-a : tie.Need-array-read-a Inv-loop μ-loop
-array-read-a c = omega arith
+array-read-to : tie.Need-array-read-to Inv-loop μ-loop
+array-read-to c = omega arith
 
-mul-a-2 : tie.Need-mul-a-2 Inv-loop μ-loop
-mul-a-2 c = omega arith
+mul-to-2 : tie.Need-mul-to-2 Inv-loop μ-loop
+mul-to-2 c = omega arith
 
-add-a : tie.Need-add-a Inv-loop μ-loop
-add-a c = omega arith
+add-to : tie.Need-add-to Inv-loop μ-loop
+add-to c = omega arith
 
-mul-a-3 : tie.Need-mul-a-3 Inv-loop μ-loop
-mul-a-3 c = omega arith
+mul-to-3 : tie.Need-mul-to-3 Inv-loop μ-loop
+mul-to-3 c = omega arith
 
-array-write-a : tie.Need-array-write-a Inv-loop μ-loop
-array-write-a c = omega arith
+element-write-to : tie.Need-element-write-to Inv-loop μ-loop
+element-write-to c = omega arith
 
 add-e : tie.Need-add-e Inv-loop μ-loop
 add-e c = omega arith
@@ -61,12 +61,12 @@ put-inverse-spec =
     Inv-loop
     μ-loop
     loop-holds
-    mul-a
-    array-read-a
-    mul-a-2
-    add-a
-    mul-a-3
-    array-write-a
+    mul-to
+    array-read-to
+    mul-to-2
+    add-to
+    mul-to-3
+    element-write-to
     add-e
     loop-less
     loop-again

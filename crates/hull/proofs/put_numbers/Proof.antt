@@ -7,29 +7,29 @@ use Rattle.hull.proofs.put_numbers.Tie as tie
 mul-at : tie.Need-mul-at
 mul-at c = search needs
 
-cast-a : tie.Need-cast-a
-cast-a c = search needs
+cast-to : tie.Need-cast-to
+cast-to c = search needs
 
-array-write-a : tie.Need-array-write-a
-array-write-a c = search needs
+element-write-to : tie.Need-element-write-to
+element-write-to c = search needs
 
-cast-a-2 : tie.Need-cast-a-2
-cast-a-2 c = search needs
+cast-to-2 : tie.Need-cast-to-2
+cast-to-2 c = search needs
 
-add-a : tie.Need-add-a
-add-a c = search needs
+add-to : tie.Need-add-to
+add-to c = search needs
 
-array-write-a-2 : tie.Need-array-write-a-2
-array-write-a-2 c = search needs
+element-write-to-2 : tie.Need-element-write-to-2
+element-write-to-2 c = search needs
 
-cast-a-3 : tie.Need-cast-a-3
-cast-a-3 c = search needs
+cast-to-3 : tie.Need-cast-to-3
+cast-to-3 c = search needs
 
-add-a-2 : tie.Need-add-a-2
-add-a-2 c = search needs
+add-to-2 : tie.Need-add-to-2
+add-to-2 c = search needs
 
-array-write-a-3 : tie.Need-array-write-a-3
-array-write-a-3 c = search needs
+element-write-to-3 : tie.Need-element-write-to-3
+element-write-to-3 c = search needs
 
 returns : tie.Need-returns
 returns c = simp unary-clauses
@@ -39,12 +39,12 @@ put-numbers-spec =
     tie.close
     (tie.spec
     mul-at
-    cast-a
-    array-write-a
-    cast-a-2
-    add-a
-    array-write-a-2
-    cast-a-3
-    add-a-2
-    array-write-a-3
+    cast-to
+    element-write-to
+    cast-to-2
+    add-to
+    element-write-to-2
+    cast-to-3
+    add-to-2
+    element-write-to-3
     returns)

@@ -12,20 +12,17 @@ use Rattle.lists.proofs.Collect.{length-collect}
 use Rattle.lists.proofs.Ranges.{length-range, range-none}
 use Rattle.vector.specs.Speakers.{Speaker}
 use Rattle.layout.specs.Layout.{speakerAt}
-use Rattle.layout.specs.Arrays.{activeIn, nextOf}
+use Rattle.layout.specs.Arrays.{heldIn, activeIn, nextOf}
 use Rattle.layout.specs.declared.Active.{Active}
 use Rattle.layout.proofs.Speakers.{active-three, three, every-collect, collect-range, next-active, none-active, counted}
 use Rattle.layout.proofs.active_speakers.Statement.{statement}
 use Rattle.layout.proofs.active_speakers.Tie as tie
-use Rattle.layout.proofs.active_speakers.Reads as reads
-use Rattle.layout.proofs.active_speakers.Lts as lts
-use Rattle.layout.proofs.next.Reads as next-reads
 
 abbrev Inv-loop : tie.InvT-loop
-Inv-loop positions lfe outputs act₀ i₀ act i = (i ≤ outputs) × (act ≡ activeIn (collect (speakerAt positions lfe) (range i))) × (act .count ≤ i)
+Inv-loop positions lfe outputs out₀ dir₀ n₀ i₀ out dir n i = (i ≤ outputs) × (heldIn out dir n ≡ activeIn (collect (speakerAt positions lfe) (range i))) × (n ≤ i)
 
 abbrev μ-loop : tie.MeasureT-loop
-μ-loop positions lfe outputs act₀ i₀ act i = outputs - i
+μ-loop positions lfe outputs out₀ dir₀ n₀ i₀ out dir n i = outputs - i
 
 loop-holds : tie.Need-loop-holds Inv-loop μ-loop
 unfolding ofBits
@@ -42,8 +39,8 @@ loop-less c = omega arith
 
 loop-again : tie.Need-loop-again Inv-loop μ-loop
 loop-again c =
-    let a = c .before .before .before .before .before .args in
-    let l = c .before .before .loop in
+    let a = c .before .before .before .before .before .before .before .args in
+    let l = c .before .before .before .before .loop in
     let f = speakerAt (now (a .positions)) (now (a .lfe)) in
     let e = c .next .ensures ∙ ap (λ (x : Active). nextOf x (f (l .i))) (l .inv .1)
     ∙ next-active (collect f (range (l .i))) (f (l .i)) (every-collect f three (λ i s h. active-three (now (a .positions)) (now (a .lfe)) i s h) (range (l .i)))

@@ -5,6 +5,7 @@ use mathlib.Core.Bool.{Bool, true, false, _&&_}
 use mathlib.Core.List.{List, map}
 use native.Mathlib.Omega.{arith}
 use borrow.Author.Needs.{needs}
+use denote.Ref.{now}
 use lib.Ieee.{Float, nan, le}
 use lib.ListN.{length, getD}
 use Rattle.lists.specs.Lists.{every, part, range, between}
@@ -17,11 +18,6 @@ use Rattle.layout.specs.Layout.{levelAt, planarMaxElevation}
 use Rattle.layout.proofs.Speakers.{every-map}
 use Rattle.layout.proofs.all_level.Statement.{statement}
 use Rattle.layout.proofs.all_level.Tie as tie
-use Rattle.layout.proofs.all_level.Reads as reads
-use Rattle.layout.proofs.all_level.Lts as lts
-use Rattle.ieee.proofs.abs64.Reads as abs64-reads
-use Rattle.ieee.proofs.widen.Reads as widen-reads
-use Rattle.trig.proofs.sin.Reads as sin-reads
 
 -- the test of a direction, by its number
 abbrev levelIn : List Float → ℕ → Bool
@@ -47,10 +43,10 @@ unfolding levelAt
 level-here dir i most height e h = ap₂ le (ap abs (getD-part 3 dir i 1 nan (omega arith)) ∙ sym h) (sym e)
 
 abbrev Inv-loop : tie.InvT-loop
-Inv-loop n dir most i₀ i = (i ≤ n) × (most ≡ sinOf planarMaxElevation) × (every (levelIn dir) (between i n) ≡ every (levelIn dir) (between 0 n))
+Inv-loop dir n most i₀ i = (i ≤ n) × (most ≡ sinOf planarMaxElevation) × (every (levelIn dir) (between i n) ≡ every (levelIn dir) (between 0 n))
 
 abbrev μ-loop : tie.MeasureT-loop
-μ-loop n dir most i₀ i = n - i
+μ-loop dir n most i₀ i = n - i
 
 widen-requires : tie.Need-widen-requires Inv-loop μ-loop
 widen-requires c κs = search needs
@@ -70,8 +66,8 @@ add-abs64 c = omega arith
 mul-abs64-2 : tie.Need-mul-abs64-2 Inv-loop μ-loop
 mul-abs64-2 c = omega arith
 
-array-read-abs64 : tie.Need-array-read-abs64 Inv-loop μ-loop
-array-read-abs64 c = omega arith
+element-copy-out-abs64 : tie.Need-element-copy-out-abs64 Inv-loop μ-loop
+element-copy-out-abs64 c = omega arith
 
 abs64-requires : tie.Need-abs64-requires Inv-loop μ-loop
 abs64-requires c κs = search needs
@@ -84,23 +80,23 @@ loop-less c = omega arith
 
 loop-again : tie.Need-loop-again Inv-loop μ-loop
 loop-again c =
-    let a = c .before .before .before .before .before .before .args in
-    let l = c .before .before .before .loop in
-    let e : levelIn (a .t1) (l .i) ≡ true = level-here (a .t1) (l .i) _ _ (l .inv .1) (c .before .abs64 .ensures) ∙ c .if1 .taken in
-    (omega arith, l .inv .1, sym (every-cons (levelIn (a .t1)) (l .i) (a .n) (omega arith) ∙ rw e refl) ∙ l .inv .2)
+    let a = c .before .before .before .before .before .before .before .args in
+    let l = c .before .before .before .before .loop in
+    let e : levelIn (now (a .dir)) (l .i) ≡ true = level-here (now (a .dir)) (l .i) _ _ (l .inv .1) (c .before .abs64 .ensures) ∙ c .if1 .taken in
+    (omega arith, l .inv .1, sym (every-cons (levelIn (now (a .dir))) (l .i) (a .n) (omega arith) ∙ rw e refl) ∙ l .inv .2)
 
 returns : tie.Need-returns Inv-loop μ-loop
 returns c =
-    let a = c .before .before .before .before .before .before .args in
-    let l = c .before .before .before .loop in
-    let e : levelIn (a .t1) (l .i) ≡ false = level-here (a .t1) (l .i) _ _ (l .inv .1) (c .before .abs64 .ensures) ∙ c .if1 .left in
-    sym (every-cons (levelIn (a .t1)) (l .i) (a .n) (omega arith) ∙ rw e refl) ∙ l .inv .2 ∙ sym (points-level (a .n) (a .t1))
+    let a = c .before .before .before .before .before .before .before .args in
+    let l = c .before .before .before .before .loop in
+    let e : levelIn (now (a .dir)) (l .i) ≡ false = level-here (now (a .dir)) (l .i) _ _ (l .inv .1) (c .before .abs64 .ensures) ∙ c .if1 .left in
+    sym (every-cons (levelIn (now (a .dir))) (l .i) (a .n) (omega arith) ∙ rw e refl) ∙ l .inv .2 ∙ sym (points-level (a .n) (now (a .dir)))
 
 returns-2 : tie.Need-returns-2 Inv-loop μ-loop
 returns-2 c =
     let a = c .before .before .before .before .args in
     let l = c .before .loop in
-    sym (every-over (levelIn (a .t1)) (l .i) (a .n) (omega arith)) ∙ l .inv .2 ∙ sym (points-level (a .n) (a .t1))
+    sym (every-over (levelIn (now (a .dir))) (l .i) (a .n) (omega arith)) ∙ l .inv .2 ∙ sym (points-level (a .n) (now (a .dir)))
 
 pub all-level-spec : {M : Type 1} → statement M
 all-level-spec =
@@ -114,7 +110,7 @@ all-level-spec =
     mul-abs64
     add-abs64
     mul-abs64-2
-    array-read-abs64
+    element-copy-out-abs64
     abs64-requires
     add-i
     loop-less

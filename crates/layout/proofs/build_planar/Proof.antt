@@ -13,10 +13,6 @@ use Rattle.layout.proofs.Laid.{laid-planar}
 use Rattle.layout.proofs.Speakers.{count-is, slots-count, out-is, pairs-few}
 use Rattle.layout.proofs.build_planar.Statement.{statement}
 use Rattle.layout.proofs.build_planar.Tie as tie
-use Rattle.layout.proofs.build_planar.Reads as reads
-use Rattle.layout.proofs.build_planar.Lts as lts
-use Rattle.layout.proofs.blank.Reads as blank-reads
-use Rattle.planar.proofs.build_planar.Reads as build-planar-reads
 
 build-planar-requires : tie.Need-build-planar-requires
 build-planar-requires c κs = search needs
@@ -27,9 +23,9 @@ blank-requires c κs = search needs
 cast-p : tie.Need-cast-p
 unfolding planarIn speakersOf
 cast-p c =
-    let s = c .before .before .before .before .before .before in
+    let s = c .before .before .before .before .before .before .before .before in
     let e = ap (λ (p : Planar). p .«num_pairs») (c .before .before .before .build-planar .ensures) in
-    omega (arith, e, pairs-few (speakersOf (s .args .act)), count-is (s .args .act), s .pre .few)
+    omega (arith, e, pairs-few (speakersOf (s .args .t2)), count-is (s .args .t2), s .pre .few)
 
 cast-p-2 : tie.Need-cast-p-2
 cast-p-2 c = search needs
@@ -37,8 +33,8 @@ cast-p-2 c = search needs
 returns : tie.Need-returns
 unfolding planarIn speakersOf
 returns c =
-    let s = c .before .before .before .before .before .before in
-    let a = s .args .act in
+    let s = c .before .before .before .before .before .before .before .before in
+    let a = s .args .t2 in
     let made = c .before .before .before .build-planar .ensures in
     laid-planar (s .args .outputs) (pairsOf (speakersOf a)) (slotsOf (speakersOf a)) (c .before .blank .ensures) (ap (λ (p : Planar). p .«num_pairs») made)
     (ap (λ (p : Planar). p .pairs) made) (sym (slots-count (speakersOf a) ∙ count-is a)) (out-is a (s .pre))

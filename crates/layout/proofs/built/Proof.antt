@@ -13,13 +13,6 @@ use Rattle.layout.proofs.Answers.{accepted-as, built-none, built-one, b
 use Rattle.layout.proofs.Speakers.{count-is, first-slot, level-is}
 use Rattle.layout.proofs.built.Statement.{statement}
 use Rattle.layout.proofs.built.Tie as tie
-use Rattle.layout.proofs.built.Reads as reads
-use Rattle.layout.proofs.built.Lts as lts
-use Rattle.layout.proofs.all_level.Reads as all-level-reads
-use Rattle.layout.proofs.build_hull.Reads as build-hull-reads
-use Rattle.layout.proofs.build_mono.Reads as build-mono-reads
-use Rattle.layout.proofs.build_planar.Reads as build-planar-reads
-use Rattle.layout.proofs.build_silent.Reads as build-silent-reads
 
 build-silent-requires : tie.Need-build-silent-requires
 build-silent-requires c κs = search needs
@@ -28,7 +21,7 @@ returns : tie.Need-returns
 unfolding imaginaryIn
 returns c =
     let s = c .before .before in
-    let a = s .args .act in
+    let a = s .args .t2 in
     accepted-as (record { outputs = s .args .outputs; shape = silent }) (c .build-silent .ensures) refl
     ∙ sym (built-none (s .args .outputs) (speakersOf a) (count-is a ∙ c .before .if1 .taken))
 
@@ -42,7 +35,7 @@ returns-2 : tie.Need-returns-2
 unfolding imaginaryIn
 returns-2 c =
     let s = c .before .before .before .before in
-    let a = s .args .act in
+    let a = s .args .t2 in
     let one : a .count ≡ 1 = c .before .before .if2 .taken in
     accepted-as (record { outputs = s .args .outputs; shape = mono (getD (slotsOf (speakersOf a)) 0 0) })
     (c .build-mono .ensures ∙ ap (λ (i : ℕ). laid (record { outputs = s .args .outputs; shape = mono i })) (first-slot a (s .pre) (omega arith))) refl
@@ -57,9 +50,9 @@ build-planar-requires c κs = search needs
 returns-3 : tie.Need-returns-3
 unfolding imaginaryIn
 returns-3 c =
-    let s = c .before .before .before .before .before .before in
-    let a = s .args .act in
-    let two : 2 ≤ length (speakersOf a) = omega (arith, count-is a, c .before .before .before .before .if2, c .before .before .before .before .before .if1) in
+    let s = c .before .before .before .before .before .before .before in
+    let a = s .args .t2 in
+    let two : 2 ≤ length (speakersOf a) = omega (arith, count-is a, c .before .before .before .before .before .if2, c .before .before .before .before .before .before .if1) in
     accepted-as (record { outputs = s .args .outputs; shape = planar (pairsOf (speakersOf a)) (slotsOf (speakersOf a)) }) (c .build-planar .ensures) refl
     ∙ sym (built-level (s .args .outputs) (speakersOf a) two (level-is a ∙ sym (c .before .before .all-level .ensures) ∙ c .before .if3 .taken))
 
@@ -68,9 +61,9 @@ build-hull-requires c κs = search needs
 
 returns-4 : tie.Need-returns-4
 returns-4 c =
-    let s = c .before .before .before .before .before .before in
-    let a = s .args .act in
-    let two : 2 ≤ length (speakersOf a) = omega (arith, count-is a, c .before .before .before .before .if2, c .before .before .before .before .before .if1) in
+    let s = c .before .before .before .before .before .before .before in
+    let a = s .args .t2 in
+    let two : 2 ≤ length (speakersOf a) = omega (arith, count-is a, c .before .before .before .before .before .if2, c .before .before .before .before .before .before .if1) in
     c .build-hull .ensures
     ∙ sym (built-hull (s .args .outputs) (speakersOf a) two (level-is a ∙ sym (c .before .before .all-level .ensures) ∙ c .before .if3 .left))
 

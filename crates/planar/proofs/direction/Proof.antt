@@ -2,60 +2,60 @@
 use mathlib.Core.Path.{sym}
 use native.Mathlib.Omega.{arith}
 use lib.Ieee.{nan}
-use borrow.Author.Needs.{needs}
 use Rattle.lists.proofs.Parts.{part-three}
+use borrow.Author.Needs.{needs}
 use Rattle.planar.proofs.direction.Statement.{statement}
 use Rattle.planar.proofs.direction.Tie as tie
+
+mul-t3 : tie.Need-mul-t3
+mul-t3 c = search needs
 
 mul-t4 : tie.Need-mul-t4
 mul-t4 c = search needs
 
-mul-t5 : tie.Need-mul-t5
-mul-t5 c = search needs
+element-copy-out-t7 : tie.Need-element-copy-out-t7
+element-copy-out-t7 c = search needs
 
-array-read-t8 : tie.Need-array-read-t8
-array-read-t8 c = search needs
+mul-t8 : tie.Need-mul-t8
+mul-t8 c = search needs
 
-mul-t9 : tie.Need-mul-t9
-mul-t9 c = search needs
+add-t9 : tie.Need-add-t9
+add-t9 c = search needs
 
-add-t10 : tie.Need-add-t10
-add-t10 c = search needs
+mul-t10 : tie.Need-mul-t10
+mul-t10 c = search needs
 
-mul-t11 : tie.Need-mul-t11
-mul-t11 c = search needs
+element-copy-out-t13 : tie.Need-element-copy-out-t13
+element-copy-out-t13 c = search needs
 
-array-read-t14 : tie.Need-array-read-t14
-array-read-t14 c = search needs
+mul-t14 : tie.Need-mul-t14
+mul-t14 c = search needs
 
-mul-t15 : tie.Need-mul-t15
-mul-t15 c = search needs
+add-t15 : tie.Need-add-t15
+add-t15 c = search needs
 
-add-t16 : tie.Need-add-t16
-add-t16 c = search needs
+mul-t16 : tie.Need-mul-t16
+mul-t16 c = search needs
 
-mul-t17 : tie.Need-mul-t17
-mul-t17 c = search needs
-
-array-read-t20 : tie.Need-array-read-t20
-array-read-t20 c = search needs
+element-copy-out-t19 : tie.Need-element-copy-out-t19
+element-copy-out-t19 c = search needs
 
 returns : tie.Need-returns
-returns c = sym (part-three _ _ nan (omega (arith, c .good .0 .1 .0 .1)))
+returns c = sym (part-three _ _ nan (omega (arith, c .before .before .before .pre .1)))
 
 pub direction-spec : {M : Type 1} → statement M
 direction-spec =
     tie.close
     (tie.spec
+    mul-t3
     mul-t4
-    mul-t5
-    array-read-t8
-    mul-t9
-    add-t10
-    mul-t11
-    array-read-t14
-    mul-t15
-    add-t16
-    mul-t17
-    array-read-t20
+    element-copy-out-t7
+    mul-t8
+    add-t9
+    mul-t10
+    element-copy-out-t13
+    mul-t14
+    add-t15
+    mul-t16
+    element-copy-out-t19
     returns)

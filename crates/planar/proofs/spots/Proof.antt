@@ -14,20 +14,20 @@ use Rattle.planar.proofs.spots.Statement.{statement}
 use Rattle.planar.proofs.spots.Tie as tie
 
 abbrev Inv-loop : tie.InvT-loop
-Inv-loop dir n out a₀ i₀ a i = (i ≤ n) × (a ≡ filled 53 noSpot (spotsIn out dir i)) × (every slotFits (spotsIn out dir i) ≡ true)
+Inv-loop out dir n a₀ i₀ a i = (i ≤ n) × (a ≡ filled 53 noSpot (spotsIn out dir i)) × (every slotFits (spotsIn out dir i) ≡ true)
 
 abbrev μ-loop : tie.MeasureT-loop
-μ-loop dir n out a₀ i₀ a i = n - i
+μ-loop out dir n a₀ i₀ a i = n - i
 
 loop-holds : tie.Need-loop-holds Inv-loop μ-loop
 unfolding ofBits
 loop-holds c = (zero-le, spots-none _ _, slots-none _ _)
 
-array-read-spot : tie.Need-array-read-spot Inv-loop μ-loop
-array-read-spot c = omega arith
+element-copy-out-spot : tie.Need-element-copy-out-spot Inv-loop μ-loop
+element-copy-out-spot c = omega arith
 
 direction-requires : tie.Need-direction-requires Inv-loop μ-loop
-direction-requires c κs = omega arith
+direction-requires c κs = (omega arith, c .before .before .before .pre .1)
 
 spot-requires : tie.Need-spot-requires Inv-loop μ-loop
 spot-requires c κs = search needs
@@ -46,10 +46,10 @@ loop-less c = omega arith
 
 loop-again : tie.Need-loop-again Inv-loop μ-loop
 loop-again c =
-    let b = c .before .before .before in
+    let b = c .before .before .before .before in
     let g = b .before .args in
-    let e : c .spot .result ≡ spotOf (speakerAt (g .t1) (g .dir) (b .loop .i)) = cc in
-    (omega arith, rw e (spots-more (g .t1) (g .dir) (b .loop .i) (omega arith) (b .loop .inv .1)), slots-more (g .t1) (g .dir) (b .loop .i) (b .loop .inv .2) (rw e at (c .spot .ensures .1)))
+    let e : c .spot .result ≡ spotOf (speakerAt (g .out .now) (g .dir .now) (b .loop .i)) = cc in
+    (omega arith, rw e (spots-more (g .out .now) (g .dir .now) (b .loop .i) (omega arith) (b .loop .inv .1)), slots-more (g .out .now) (g .dir .now) (b .loop .i) (b .loop .inv .2) (rw e at (c .spot .ensures .1)))
 
 returns : tie.Need-returns Inv-loop μ-loop
 returns c =
@@ -64,7 +64,7 @@ spots-spec =
     Inv-loop
     μ-loop
     loop-holds
-    array-read-spot
+    element-copy-out-spot
     direction-requires
     spot-requires
     mul-a
