@@ -1,10 +1,10 @@
 -- A row by its kind, and the buffer after `gains`, as the code makes them: by the tests of the definitions. Assumes nothing.
 use Prim.Native.Nat.{ℕ, _≤_, min}
-use mathlib.Core.Path.{_≡_, sym, ap}
-use mathlib.Core.Bool.{Bool, true, false, cond}
+use mathlib.Core.Path.{_≡_, sym, ap, ap₂, _∙_}
+use mathlib.Core.Bool.{Bool, true, false, cond, _||_}
 use mathlib.Core.List.{List, _++_}
 use native.Mathlib.Omega.{arith}
-use lib.ListN.{length, set, take, drop, replicate}
+use lib.ListN.{length, set, take, drop, replicate, take-append-drop}
 use lib.Seq.{length-take-le}
 use lib.Ieee.{Float}
 use Rattle.ieee.specs.Values.{+0, 1·0, isFinite}
@@ -13,10 +13,12 @@ use Rattle.panner.specs.declared.Kind.{Kind}
 use Rattle.panner.specs.declared.Kind.the-variants.{Silent, Mono, Planar, Hull}
 use Rattle.panner.specs.Panner.{hullIn, shapeIn, layoutIn}
 use Rattle.panner.specs.Malformed.{countsOver, numbersOut, malformedOf}
-use Rattle.panner.proofs.Bounds.{neither}
 use Rattle.planar_row.specs.PlanarRow.{planarRow}
 use Rattle.hull_row.specs.HullRow.{hullRow}
+use Rattle.hull_row.specs.Fields.{hullOf}
+use Rattle.hull_row.proofs.Fields.{hull-of}
 use Rattle.gains.specs.Gains.{finiteOr0, rowIn, rowOf, gainsOf, gainsNumber, gainsBuffer}
+use Rattle.gains.specs.Checked.{Checked}
 
 -- ---- an angle
 
@@ -47,21 +49,34 @@ module _ (v : VbapPanner) (n : ℕ) (az el : Float) where
   unfolding rowIn shapeIn
   row-planar e = sym (row-kind Planar e)
 
-  pub row-hull : v .kind ≡ Hull → hullRow n az el (hullIn (shapeIn v Hull)) ≡ rowIn n az el (layoutIn v .shape)
+  pub row-hull : v .kind ≡ Hull
+      → hullRow n az el (hullOf (v .«pt_out») (v .«pt_dir») (v .«num_real») (v .idx) (v .inv) (v .«num_tris») (v .«num_nbrs») (v .«imag_nbrs») (v .«num_imag»))
+      ≡ rowIn n az el (layoutIn v .shape)
   unfolding rowIn shapeIn hullIn
-  row-hull e = sym (row-kind Hull e)
+  row-hull e = ap (hullRow n az el) (hull-of v) ∙ sym (row-kind Hull e)
+
+-- ---- a checked row
+
+module _ (out : Bool) (row before : List Float) where
+  pub refused : out ≡ true → Checked out row before 11 before
+  refused e = record { answer = sym (ap (λ (b : Bool). cond b 11 0) e); places = sym (ap (λ (b : Bool). cond b before row) e) }
+
+  pub accepted : out ≡ false → (after : List Float) → after ≡ row → Checked out row before 0 after
+  accepted e after f = record { answer = sym (ap (λ (b : Bool). cond b 11 0) e); places = f ∙ sym (ap (λ (b : Bool). cond b before row) e) }
 
 -- ---- the number and the buffer
 
 module _ (v : VbapPanner) (az el : Float) (buffer : List Float) where
-  pub refused : malformedOf v ≡ true → (11 ≡ gainsNumber v) × (buffer ≡ gainsBuffer v az el buffer)
-  unfolding gainsNumber gainsBuffer
-  refused e =
-      (sym (ap (λ (b : Bool). cond b 11 0) e), sym (ap (λ (b : Bool). cond b buffer (gainsOf (layoutIn v) az el buffer)) e))
+  pub counted-out : countsOver v ≡ true → (11 ≡ gainsNumber v) × (buffer ≡ gainsBuffer v az el buffer)
+  unfolding gainsNumber gainsBuffer malformedOf
+  counted-out e =
+      let m : malformedOf v ≡ true = ap (λ (b : Bool). b || numbersOut v) e in
+      (sym (ap (λ (b : Bool). cond b 11 0) m), sym (ap (λ (b : Bool). cond b buffer (gainsOf (layoutIn v) az el buffer)) m))
 
-  pub counts-within : malformedOf v ≡ false → countsOver v ≡ false
+  -- counts within, the numbers decide
+  told : (out : Bool) → countsOver v ≡ false → numbersOut v ≡ out → malformedOf v ≡ out
   unfolding malformedOf
-  counts-within e = neither (countsOver v) (numbersOut v) e .0
+  told out e f = ap₂ _||_ e f
 
   module _ (n : ℕ) (h : n ≡ min (v .«num_outputs») (length buffer)) where
     within : n ≤ length buffer
@@ -70,10 +85,20 @@ module _ (v : VbapPanner) (az el : Float) (buffer : List Float) where
     pub front-length : length (take n buffer) ≡ n
     front-length = length-take-le n buffer within
 
-    pub accepted : malformedOf v ≡ false → (row : List Float) (a b : Float) → a ≡ finiteOr0 az → b ≡ finiteOr0 el → row ≡ rowIn (length (take n buffer)) a b (layoutIn v .shape)
-        → (0 ≡ gainsNumber v) × (row ++ drop n buffer ≡ gainsBuffer v az el buffer)
-    unfolding gainsNumber gainsBuffer gainsOf rowOf layoutIn
-    accepted e row a b ea eb er = (
-      sym (ap (λ (b : Bool). cond b 11 0) e),
-      rw (er, front-length, ea, eb, h) (sym (ap (λ (b : Bool). cond b buffer (gainsOf (layoutIn v) az el buffer)) e)),
-    )
+    module _ (within : countsOver v ≡ false) (row : List Float) (a b : Float) (ea : a ≡ finiteOr0 az) (eb : b ≡ finiteOr0 el)
+        (er : row ≡ rowIn (length (take n buffer)) a b (layoutIn v .shape)) (r : ℕ) (after : List Float) where
+      pub finished : (out : Bool) → numbersOut v ≡ out → Checked out row (take n buffer) r after
+          → (r ≡ gainsNumber v) × (after ++ drop n buffer ≡ gainsBuffer v az el buffer)
+      unfolding gainsNumber gainsBuffer gainsOf rowOf layoutIn
+      finished true e c =
+          let m = told true within e in (
+            c .answer ∙ sym (ap (λ (b : Bool). cond b 11 0) m),
+            ap (λ (l : List Float). l ++ drop n buffer) (c .places) ∙ take-append-drop n buffer
+                ∙ sym (ap (λ (b : Bool). cond b buffer (gainsOf (layoutIn v) az el buffer)) m),
+          )
+      finished false e c =
+          let m = told false within e in
+          let made : after ≡ rowIn (length (take n buffer)) a b (layoutIn v .shape) = c .places ∙ er in (
+            c .answer ∙ sym (ap (λ (b : Bool). cond b 11 0) m),
+            rw (made, front-length, ea, eb, h) (sym (ap (λ (b : Bool). cond b buffer (gainsOf (layoutIn v) az el buffer)) m)),
+          )

@@ -1,13 +1,20 @@
 // A row by the record: gains of a direction, for a panner of any kind.
 ghost use mathlib.Core.Path.{_≡_};
-ghost use mathlib.Core.Bool.{false};
-ghost use Prim.Native.Nat.{min};
-ghost use lib.ListN.{length};
-ghost use Rattle.panner.specs.Malformed.{countsOver};
-ghost use Rattle.panner.specs.Panner.{layoutIn};
-ghost use Rattle.gains.specs.Gains.{finiteOr0, rowIn, gainsNumber, gainsBuffer};
+ghost use mathlib.Core.Bool.{true, _||_};
+ghost use mathlib.Core.List.{[], _∷_, flatMap};
+ghost use Prim.Native.Nat.{_+_, _*_, _≤_, min};
+ghost use lib.Dec.{leb};
+ghost use lib.ListN.{length, getD, set, take, replicate};
+ghost use Rattle.lists.specs.Lists.{range, every, any, part};
+ghost use Rattle.ieee.specs.Values.{+0, 1·0};
+ghost use Rattle.planar_row.specs.PlanarRow.{planarRow};
+ghost use Rattle.hull_row.specs.HullRow.{hullRow};
+ghost use Rattle.hull_row.specs.Fields.{hullOf};
+ghost use Rattle.gains.specs.Gains.{finiteOr0, gainsNumber, gainsBuffer};
+ghost use Rattle.gains.specs.Checked.{Checked};
 use panner::Kind;
 use panner::VbapPanner;
+use planar::PlanarPair;
 
 // A non-finite angle counts as +0.
 pub fn finite_or_0(x: f32) -> f32
@@ -22,45 +29,149 @@ fn lesser(a: usize, b: usize) -> usize
     if a < b { a } else { b }
 }
 
-// The row of a record whose counts are within its arrays; every place of out is one of the row's.
-fn row(p: VbapPanner, az: f32, el: f32, out: &mut [f32])
-    requires { ⌜ countsOver p ≡ false ⌝ }
-    ensures { λ _. ⌜ now (out .exit) ≡ rowIn (length (now (out .entry))) az el (layoutIn p .shape) ⌝ }
+// ---- a row by its kind: 11 for a number out of range, nothing touched; else 0, and every place of out is one of the row's.
+
+fn mono(slot: u8, outputs: u8, out: &mut [f32]) -> u32
+    ensures { λ r. ⌜ Checked (leb outputs slot) (set (replicate (length (now (out .entry))) +0) slot 1·0) (now (out .entry)) r (now (out .exit)) ⌝ }
 {
-    let kind = p.kind;
-    match kind {
-        Kind::Silent => planar_row::zero(out),
-        Kind::Mono => {
-            planar_row::zero(out);
-            planar_row::put(out, p.mono, 1.0)
-        }
-        Kind::Planar => {
-            let pairs = p.pairs;
-            let slots = p.slots;
-            planar_row::planar_row(
-                pairs,
-                p.num_pairs as usize,
-                slots,
-                p.num_slots as usize,
-                az,
-                el,
-                out,
-            )
-        }
-        Kind::Hull => hull_row::hull_row(p, az, el, out),
+    if outputs <= slot {
+        return 11;
     }
+    planar_row::zero(&mut *out);
+    planar_row::put(out, slot, 1.0);
+    0
+}
+
+fn planar(
+    pairs: [PlanarPair; 40],
+    num_pairs: usize,
+    slots: [u8; 40],
+    num_slots: usize,
+    outputs: u8,
+    az: f32,
+    el: f32,
+    out: &mut [f32],
+) -> u32
+    requires { ⌜ («num_pairs» ≤ 40) × («num_slots» ≤ 40) ⌝ }
+    ensures { λ r. ⌜ Checked (any (λ x. leb outputs x) (flatMap (λ p. p .a ∷ p .b ∷ []) (take «num_pairs» pairs)) || any (λ x. leb outputs x) (take «num_slots» slots)) (planarRow (length (now (out .entry))) az el (take «num_pairs» pairs) (take «num_slots» slots)) (now (out .entry)) r (now (out .exit)) ⌝ }
+{
+    if panner::planar_over(pairs, num_pairs, slots, num_slots, outputs) {
+        return 11;
+    }
+    planar_row::planar_row(pairs, num_pairs, slots, num_slots, az, el, out);
+    0
+}
+
+fn hull(
+    slots: [u8; 40],
+    dirs: [f32; 120],
+    num_real: usize,
+    idx: [u8; 240],
+    inv: [f32; 720],
+    num_tris: usize,
+    counts: [u8; 14],
+    nbrs: [u8; 560],
+    num_imag: usize,
+    outputs: u8,
+    az: f32,
+    el: f32,
+    out: &mut [f32],
+) -> u32
+    requires { ⌜ («num_real» ≤ 40) × («num_imag» ≤ 14) × («num_tris» ≤ 80) × (every (λ x. leb x 40) counts ≡ true) ⌝ }
+    ensures { λ r. ⌜ Checked (any (λ x. leb outputs x) (take «num_real» slots) || any (λ x. leb outputs x) (flatMap (λ k. take (getD counts k 0) (part 40 nbrs k)) (range «num_imag»)) || any (λ x. leb («num_real» + «num_imag») x) (take («num_tris» * 3) idx)) (hullRow (length (now (out .entry))) az el (hullOf slots dirs «num_real» idx inv «num_tris» counts nbrs «num_imag»)) (now (out .entry)) r (now (out .exit)) ⌝ }
+    ensures long { λ _. ⌜ length idx ≡ 240 ⌝ }
+{
+    let points = (num_real + num_imag) as u8;
+    if panner::hull_over(
+        slots,
+        num_real,
+        counts,
+        nbrs,
+        num_imag,
+        idx,
+        num_tris,
+        outputs,
+        points,
+    ) {
+        return 11;
+    }
+    hull_row::hull_row(
+        slots,
+        dirs,
+        num_real,
+        idx,
+        inv,
+        num_tris,
+        counts,
+        nbrs,
+        num_imag,
+        az,
+        el,
+        out,
+    );
+    0
 }
 
 // `VbapPanner::gains`: 11 for a malformed record, nothing touched; else 0, and the row in the first of the places, as many as there are outputs.
+// Each field that is an array is copied where its kind is known, and handed on: the record itself is never copied.
 // Free to the program: the sign and payload of a NaN in a row of a record made by hand; every choice is a NaN. A record from `new` gives none (crate row_sound).
 pub fn gains(panner: VbapPanner, az: f32, el: f32, out: &mut [f32]) -> u32
     ensures { λ r. ⌜ r ≡ gainsNumber panner ⌝ }
     ensures { λ _. ⌜ now (out .exit) ≡ gainsBuffer panner az el (now (out .entry)) ⌝ }
 {
-    if panner::malformed(panner) {
+    let counts = panner.num_nbrs;
+    let outputs = panner.num_outputs;
+    let pairs_used = panner.num_pairs;
+    let slots_used = panner.num_slots;
+    let real = panner.num_real;
+    let tris = panner.num_tris;
+    let imag = panner.num_imag;
+    if panner::counts_over(outputs, real, pairs_used, slots_used, tris, imag, counts) {
         return 11;
     }
-    let n = lesser(panner.num_outputs as usize, out.len());
-    row(panner, finite_or_0(az), finite_or_0(el), &mut out[..n]);
-    0
+    let n = lesser(outputs as usize, out.len());
+    let kind = panner.kind;
+    match kind {
+        Kind::Silent => {
+            planar_row::zero(&mut out[..n]);
+            0
+        }
+        Kind::Mono => mono(panner.mono, outputs, &mut out[..n]),
+        Kind::Planar => {
+            let pairs = panner.pairs;
+            let slots = panner.slots;
+            planar(
+                pairs,
+                pairs_used as usize,
+                slots,
+                slots_used as usize,
+                outputs,
+                finite_or_0(az),
+                finite_or_0(el),
+                &mut out[..n],
+            )
+        }
+        Kind::Hull => {
+            let slots = panner.pt_out;
+            let dirs = panner.pt_dir;
+            let idx = panner.idx;
+            let inv = panner.inv;
+            let nbrs = panner.imag_nbrs;
+            hull(
+                slots,
+                dirs,
+                real as usize,
+                idx,
+                inv,
+                tris as usize,
+                counts,
+                nbrs,
+                imag as usize,
+                outputs,
+                finite_or_0(az),
+                finite_or_0(el),
+                &mut out[..n],
+            )
+        }
+    }
 }

@@ -5,3 +5,4 @@ pub mod Row
 pub mod FloatOrder
 pub mod Meaning
 pub mod Found
+pub mod Fields

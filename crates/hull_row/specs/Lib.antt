@@ -1,3 +1,4 @@
 pub mod HullRow
 pub mod Steps
 pub mod Meaning
+pub mod Fields

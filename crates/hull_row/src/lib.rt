@@ -3,17 +3,14 @@ ghost use mathlib.Core.Path.{_≡_};
 ghost use mathlib.Core.Bool.{true, false};
 ghost use Prim.Native.Nat.{_+_, _≤_, _<_, min};
 ghost use lib.Dec.{leb};
-ghost use lib.ListN.{length, take};
+ghost use lib.ListN.{length, take, replicate};
 ghost use Rattle.lists.specs.Lists.{every, filled};
 ghost use Rattle.ieee.specs.Values.{+0};
 ghost use Rattle.ieee.specs.Order.{minOf};
 ghost use Rattle.vector.specs.Vector.{dirVecOf};
-ghost use Rattle.panner.specs.declared.Kind.the-variants.{Hull};
-ghost use Rattle.panner.specs.Panner.{hullIn, shapeIn};
-ghost use Rattle.panner.specs.Malformed.{countsOver};
 ghost use Rattle.hull_row.specs.HullRow.{hullRow, scaled};
+ghost use Rattle.hull_row.specs.Fields.{hullOf};
 ghost use Rattle.hull_row.specs.Steps.{gainAt, gainsAt, leastAt, leastsOf, productsOf, firstGreatest, passed, eightPassed, AllPassed, FirstKept, NoneOver, nearestIn, toReal, toImag, realPoints, imagPoints, addEach, sharedBy, sharedOut, powerOf, timesOf};
-use panner::VbapPanner;
 
 // Origin: vbap.rs line 574; a row whose power is not above it is not scaled.
 const LEAST_POWER: f32 = 1e-12;
@@ -371,13 +368,14 @@ fn products(dirs: &[f32], n: usize, s: [f32; 3]) -> [f32; 80]
     m
 }
 
-// 1 in the slot of the nearest of the first n points; nothing where there is none.
-fn nearest<'a>(out: &mut [f32], slots: &'a [u8], dirs: &'a [f32], n: usize, s: [f32; 3])
-    requires { ⌜ (n ≤ 40) × (length (now slots) ≡ 40) × (length (now dirs) ≡ 120) ⌝ }
-    ensures { λ _. ⌜ now (out .exit) ≡ nearestIn s (now (slots .entry)) (now (dirs .entry)) n (now (out .entry)) ⌝ }
+// +0 throughout, and 1 in the slot of the nearest of the first n points; nothing there where there is none.
+fn nearest(out: &mut [f32], slots: &[u8], dirs: [f32; 120], n: usize, s: [f32; 3])
+    requires { ⌜ (n ≤ 40) × (length (now slots) ≡ 40) ⌝ }
+    ensures { λ _. ⌜ now (out .exit) ≡ nearestIn s (now (slots .entry)) dirs n (replicate (length (now (out .entry))) +0) ⌝ }
 {
-    let m = products(dirs, n, s);
+    let m = products(&dirs, n, s);
     let i = first_greatest(&m, n, 0);
+    planar_row::zero(out);
     if i < n {
         planar_row::put(out, slots[i], 1.0);
     }
@@ -385,23 +383,34 @@ fn nearest<'a>(out: &mut [f32], slots: &'a [u8], dirs: &'a [f32], n: usize, s: [
 
 // ---- the row
 
-// The row of a hull whose counts are within its arrays; every place of out is one of the row's.
-pub fn hull_row(p: VbapPanner, az: f32, el: f32, out: &mut [f32])
-    requires { ⌜ countsOver p ≡ false ⌝ }
-    ensures { λ _. ⌜ now (out .exit) ≡ hullRow (length (now (out .entry))) az el (hullIn (shapeIn p Hull)) ⌝ }
+// The row of a hull whose counts are within its arrays, from the record's fields; every place of out is one of the row's.
+pub fn hull_row(
+    slots: [u8; 40],
+    dirs: [f32; 120],
+    num_real: usize,
+    idx: [u8; 240],
+    inv: [f32; 720],
+    num_tris: usize,
+    counts: [u8; 14],
+    nbrs: [u8; 560],
+    num_imag: usize,
+    az: f32,
+    el: f32,
+    out: &mut [f32],
+)
+    requires { ⌜ («num_real» ≤ 40) × («num_imag» ≤ 14) × («num_tris» ≤ 80) × (every (λ x. leb x 40) counts ≡ true) ⌝ }
+    ensures { λ _. ⌜ now (out .exit) ≡ hullRow (length (now (out .entry))) az el (hullOf slots dirs «num_real» idx inv «num_tris» counts nbrs «num_imag») ⌝ }
 {
     let s = dir_vec(az, el);
-    planar_row::zero(out);
-    let n = p.num_tris as usize;
-    let nreal = p.num_real as usize;
-    let t = chosen(&p.inv, n, s);
-    if n <= t {
-        nearest(out, &p.pt_out, &p.pt_dir, nreal, s);
+    let t = chosen(&inv, num_tris, s);
+    if num_tris <= t {
+        nearest(out, &slots, dirs, num_real, s);
         return;
     }
-    let g = gains_at(&p.inv, t, s);
-    real_points(out, &p.pt_out, &p.idx, nreal, t, g);
-    let imag = imag_points(&p.idx, nreal, t, g);
-    share_out(out, &p.num_nbrs, &p.imag_nbrs, imag, p.num_imag as usize);
+    let g = gains_at(&inv, t, s);
+    let imag = imag_points(&idx, num_real, t, g);
+    planar_row::zero(out);
+    real_points(out, &slots, &idx, num_real, t, g);
+    share_out(out, &counts, &nbrs, imag, num_imag);
     scale(out);
 }

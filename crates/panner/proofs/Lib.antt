@@ -1,3 +1,4 @@
+pub mod Front
 pub mod Bounds
 pub mod Flat
 pub mod Counts

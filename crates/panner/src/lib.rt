@@ -1,6 +1,6 @@
 // A layout by value: the record of a panner, and the test of a record made by hand.
 ghost use mathlib.Core.Path.{_≡_};
-ghost use mathlib.Core.Bool.{true, false};
+ghost use mathlib.Core.Bool.{true, false, _||_};
 ghost use mathlib.Core.List.{[], _∷_, flatMap};
 ghost use Prim.Native.Nat.{_*_, _≤_};
 ghost use lib.Dec.{ltb, leb};
@@ -84,8 +84,31 @@ fn over(xs: &[u8], n: usize, bound: u8) -> bool
     false
 }
 
-// The same of the slots of the first n pairs.
-fn pairs_over(ps: [PlanarPair; 40], n: usize, bound: u8) -> bool
+// The same of a whole array by value: a field is copied out of a record, and the record stays where it is.
+fn slots_over(xs: [u8; 40], n: usize, bound: u8) -> bool
+    requires { ⌜ n ≤ 40 ⌝ }
+    ensures { λ r. ⌜ r ≡ any (λ x. leb bound x) (take n xs) ⌝ }
+{
+    over(&xs, n, bound)
+}
+
+fn points_over(xs: [u8; 240], n: usize, bound: u8) -> bool
+    requires { ⌜ n ≤ 240 ⌝ }
+    ensures { λ r. ⌜ r ≡ any (λ x. leb bound x) (take n xs) ⌝ }
+    ensures long { λ _. ⌜ length xs ≡ 240 ⌝ }
+{
+    over(&xs, n, bound)
+}
+
+// Whether a count of neighbours is over 40. Origin of 41: one more than 40 neighbours.
+fn nbrs_over(xs: [u8; 14]) -> bool
+    ensures { λ r. ⌜ r ≡ any (λ n. ltb 40 n) xs ⌝ }
+{
+    over(&xs, 14, 41)
+}
+
+// The same as `over` of the slots of the first n pairs, of many.
+fn many_over(ps: [PlanarPair; 40], n: usize, bound: u8) -> bool
     requires { ⌜ n ≤ 40 ⌝ }
     ensures { λ r. ⌜ r ≡ any (λ x. leb bound x) (flatMap (λ p. p .a ∷ p .b ∷ []) (take n ps)) ⌝ }
 {
@@ -100,6 +123,36 @@ fn pairs_over(ps: [PlanarPair; 40], n: usize, bound: u8) -> bool
         i += 1;
     }
     false
+}
+
+// The same of few.
+fn few_over(ps: [PlanarPair; 8], n: usize, bound: u8) -> bool
+    requires { ⌜ n ≤ 8 ⌝ }
+    ensures { λ r. ⌜ r ≡ any (λ x. leb bound x) (flatMap (λ p. p .a ∷ p .b ∷ []) (take n ps)) ⌝ }
+{
+    let mut i: usize = 0;
+    while i < n {
+        if bound <= ps[i].a {
+            return true;
+        }
+        if bound <= ps[i].b {
+            return true;
+        }
+        i += 1;
+    }
+    false
+}
+
+// The same, where most layouts have few pairs, and only these are copied then.
+fn pairs_over(ps: [PlanarPair; 40], n: usize, bound: u8) -> bool
+    requires { ⌜ n ≤ 40 ⌝ }
+    ensures { λ r. ⌜ r ≡ any (λ x. leb bound x) (flatMap (λ p. p .a ∷ p .b ∷ []) (take n ps)) ⌝ }
+{
+    if n <= 8 {
+        let few = [ps[0], ps[1], ps[2], ps[3], ps[4], ps[5], ps[6], ps[7]];
+        return few_over(few, n, bound);
+    }
+    many_over(ps, n, bound)
 }
 
 // The same of the neighbours of the first n imaginary points.
@@ -123,19 +176,65 @@ fn neighbours_over<'a>(counts: &'a [u8; 14], xs: &'a [u8; 560], n: usize, bound:
     false
 }
 
+// ---- the numbers of a kind, by the record's fields, so that the callers copy no record
+
+// Whether a used slot number of a planar layout is not below the outputs.
+pub fn planar_over(
+    pairs: [PlanarPair; 40],
+    num_pairs: usize,
+    slots: [u8; 40],
+    num_slots: usize,
+    outputs: u8,
+) -> bool
+    requires { ⌜ («num_pairs» ≤ 40) × («num_slots» ≤ 40) ⌝ }
+    ensures { λ r. ⌜ r ≡ any (λ x. leb outputs x) (flatMap (λ p. p .a ∷ p .b ∷ []) (take «num_pairs» pairs)) || any (λ x. leb outputs x) (take «num_slots» slots) ⌝ }
+{
+    pairs_over(pairs, num_pairs, outputs) | slots_over(slots, num_slots, outputs)
+}
+
+// The same of a hull, or a used point number not below `points`, real plus imaginary.
+pub fn hull_over(
+    out: [u8; 40],
+    num_real: usize,
+    counts: [u8; 14],
+    nbrs: [u8; 560],
+    num_imag: usize,
+    idx: [u8; 240],
+    num_tris: usize,
+    outputs: u8,
+    points: u8,
+) -> bool
+    requires { ⌜ («num_real» ≤ 40) × («num_imag» ≤ 14) × («num_tris» ≤ 80) × (every (λ x. leb x 40) counts ≡ true) ⌝ }
+    ensures { λ r. ⌜ r ≡ any (λ x. leb outputs x) (take «num_real» out) || any (λ x. leb outputs x) (flatMap (λ k. take (getD counts k 0) (part 40 nbrs k)) (range «num_imag»)) || any (λ x. leb points x) (take («num_tris» * 3) idx) ⌝ }
+    ensures long { λ _. ⌜ length idx ≡ 240 ⌝ }
+{
+    slots_over(out, num_real, outputs)
+        | neighbours_over(&counts, &nbrs, num_imag, outputs)
+        | points_over(idx, num_tris * 3, points)
+}
+
 // ---- malformed
 
-// Whether a count is over its array. Origin of the bounds: document 01, "Returned numbers"; of 41: one more than 40 neighbours.
-fn counts_over(p: VbapPanner) -> bool
-    ensures { λ r. ⌜ r ≡ countsOver p ⌝ }
+// Whether a count is over its array. Origin of the bounds: document 01, "Returned numbers".
+// It takes the counts and not the record, so that its callers copy no record.
+pub fn counts_over(
+    outputs: u8,
+    real: u8,
+    pairs: u8,
+    slots: u8,
+    tris: u8,
+    imag: u8,
+    nbrs: [u8; 14],
+) -> bool
+    ensures { λ r. ⌜ r ≡ ltb 40 outputs || ltb 40 real || ltb 40 pairs || ltb 40 slots || ltb 80 tris || ltb 14 imag || any (λ n. ltb 40 n) nbrs ⌝ }
 {
-    (40 < p.num_outputs)
-        | (40 < p.num_real)
-        | (40 < p.num_pairs)
-        | (40 < p.num_slots)
-        | (80 < p.num_tris)
-        | (14 < p.num_imag)
-        | over(&p.num_nbrs, 14, 41)
+    (40 < outputs)
+        | (40 < real)
+        | (40 < pairs)
+        | (40 < slots)
+        | (80 < tris)
+        | (14 < imag)
+        | nbrs_over(nbrs)
 }
 
 // Whether a used slot number is not below the outputs, or a used point number not below real plus imaginary.
@@ -143,20 +242,37 @@ fn numbers_out(p: VbapPanner) -> bool
     requires { ⌜ countsOver p ≡ false ⌝ }
     ensures { λ r. ⌜ r ≡ numbersOut p ⌝ }
 {
-    let outputs = p.num_outputs;
     let kind = p.kind;
     match kind {
         Kind::Silent => false,
-        Kind::Mono => outputs <= p.mono,
+        Kind::Mono => p.num_outputs <= p.mono,
         Kind::Planar => {
             let pairs = p.pairs;
-            pairs_over(pairs, p.num_pairs as usize, outputs)
-                | over(&p.slots, p.num_slots as usize, outputs)
+            let slots = p.slots;
+            planar_over(
+                pairs,
+                p.num_pairs as usize,
+                slots,
+                p.num_slots as usize,
+                p.num_outputs,
+            )
         }
         Kind::Hull => {
-            over(&p.pt_out, p.num_real as usize, outputs)
-                | neighbours_over(&p.num_nbrs, &p.imag_nbrs, p.num_imag as usize, outputs)
-                | over(&p.idx, (p.num_tris as usize) * 3, p.num_real + p.num_imag)
+            let out = p.pt_out;
+            let counts = p.num_nbrs;
+            let nbrs = p.imag_nbrs;
+            let idx = p.idx;
+            hull_over(
+                out,
+                p.num_real as usize,
+                counts,
+                nbrs,
+                p.num_imag as usize,
+                idx,
+                p.num_tris as usize,
+                p.num_outputs,
+                p.num_real + p.num_imag,
+            )
         }
     }
 }
@@ -164,7 +280,16 @@ fn numbers_out(p: VbapPanner) -> bool
 pub fn malformed(p: VbapPanner) -> bool
     ensures { λ r. ⌜ r ≡ malformedOf p ⌝ }
 {
-    if counts_over(p) {
+    let nbrs = p.num_nbrs;
+    if counts_over(
+        p.num_outputs,
+        p.num_real,
+        p.num_pairs,
+        p.num_slots,
+        p.num_tris,
+        p.num_imag,
+        nbrs,
+    ) {
         return true;
     }
     numbers_out(p)

@@ -1,3 +1,4 @@
+pub mod Front
 pub mod Rows
 pub mod Zeros
 pub mod Branches

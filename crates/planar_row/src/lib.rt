@@ -76,8 +76,8 @@ fn is_inside(az: f32, p: PlanarPair) -> bool
     rel_of(az, p) <= p.gap + INSIDE_EPS
 }
 
-// The first of n pairs that contains the azimuth, else the last.
-fn chosen_pair(pairs: [PlanarPair; 40], n: usize, az: f32) -> PlanarPair
+// The first of n pairs that contains the azimuth, else the last; of many.
+fn chosen_of_many(pairs: [PlanarPair; 40], n: usize, az: f32) -> PlanarPair
     requires { ⌜ (0 < n) × (n ≤ 40) ⌝ }
     ensures { λ r. ⌜ r ≡ chosen az (take n pairs) ⌝ }
 {
@@ -90,6 +90,43 @@ fn chosen_pair(pairs: [PlanarPair; 40], n: usize, az: f32) -> PlanarPair
         i += 1;
     }
     pairs[n - 1]
+}
+
+// The same of few.
+fn chosen_of_few(pairs: [PlanarPair; 8], n: usize, az: f32) -> PlanarPair
+    requires { ⌜ (0 < n) × (n ≤ 8) ⌝ }
+    ensures { λ r. ⌜ r ≡ chosen az (take n pairs) ⌝ }
+{
+    let mut i: usize = 0;
+    while i < n {
+        let p = pairs[i];
+        if is_inside(az, p) {
+            return p;
+        }
+        i += 1;
+    }
+    pairs[n - 1]
+}
+
+// The same, where most layouts have few pairs, and only these are copied then.
+fn chosen_pair(pairs: [PlanarPair; 40], n: usize, az: f32) -> PlanarPair
+    requires { ⌜ (0 < n) × (n ≤ 40) ⌝ }
+    ensures { λ r. ⌜ r ≡ chosen az (take n pairs) ⌝ }
+{
+    if n <= 8 {
+        let few = [
+            pairs[0],
+            pairs[1],
+            pairs[2],
+            pairs[3],
+            pairs[4],
+            pairs[5],
+            pairs[6],
+            pairs[7],
+        ];
+        return chosen_of_few(few, n, az);
+    }
+    chosen_of_many(pairs, n, az)
 }
 
 // ---- the two gains
@@ -233,11 +270,12 @@ pub fn planar_row(
     requires { ⌜ («num_pairs» ≤ 40) × («num_slots» ≤ 40) ⌝ }
     ensures { λ r. ⌜ now (out .exit) ≡ planarRow (length (now (out .entry))) az el (take «num_pairs» pairs) (take «num_slots» slots) ⌝ }
 {
-    zero(&mut *out);
     if num_pairs == 0 {
+        zero(&mut *out);
         return;
     }
     let p = chosen_pair(pairs, num_pairs, az);
     let g = by_law(az, p);
+    zero(&mut *out);
     pair_row(el, p, g, slots, num_slots, out);
 }

@@ -1,28 +1,19 @@
 -- `panner::counts_over` meets its contract: the tests in their order, and that of the fourteen counts of neighbours. Assumes nothing.
-use Prim.Native.Nat.{_≤_}
-use mathlib.Core.Path.{ap, _∙_}
+use lib.Dec.{ltb}
 use mathlib.Core.Bool.{Bool, _||_}
-use native.Mathlib.Omega.{arith}
-use lib.Dec.{leb, ltb}
-use lib.ListN.{length}
-use lib.Seq.{take-all}
-use Rattle.lists.specs.Lists.{any}
-use Rattle.panner.specs.Malformed.{countsOver}
+use mathlib.Core.Path.{ap}
 use borrow.Author.Needs.{needs}
 use Rattle.panner.proofs.counts_over.Statement.{statement}
 use Rattle.panner.proofs.counts_over.Tie as tie
 
-over-requires : tie.Need-over-requires
-over-requires c κs = search needs
+nbrs-over-requires : tie.Need-nbrs-over-requires
+nbrs-over-requires c κs = search needs
 
 returns : tie.Need-returns
-unfolding countsOver
 returns c =
-    let v = c .before .before .before .before .args .t1 in
-    let h : length (v .«num_nbrs») ≤ 14 = omega arith in
-    ap (λ (b : Bool). ltb 40 (v .«num_outputs») || ltb 40 (v .«num_real») || ltb 40 (v .«num_pairs») || ltb 40 (v .«num_slots»)
-    || ltb 80 (v .«num_tris») || ltb 14 (v .«num_imag») || b)
-    (c .over .ensures ∙ ap (any (λ x. leb 41 x)) (take-all 14 (v .«num_nbrs») h))
+    let a = c .before .args in
+    ap (λ (b : Bool). ltb 40 (a .outputs) || ltb 40 (a .real) || ltb 40 (a .pairs) || ltb 40 (a .slots) || ltb 80 (a .tris) || ltb 14 (a .imag) || b)
+    (c .nbrs-over .ensures)
 
 pub counts-over-spec : {M : Type 1} → statement M
-counts-over-spec = tie.close (tie.spec over-requires returns)
+counts-over-spec = tie.close (tie.spec nbrs-over-requires returns)

@@ -1,100 +1,63 @@
--- `planar_row::chosen_pair` meets its contract. The invariant: what is found from place i on is what is found of all pairs. Assumes nothing.
-use Prim.Native.Nat.{_≤_, _-_}
-use mathlib.Core.Path.{_≡_, refl, sym, _∙_}
+-- `planar_row::chosen_pair` meets its contract: where there are at most eight pairs, the first eight hold them all. Assumes nothing.
+use Rattle.planar_row.proofs.Front.{front}
+use Rattle.planar_row.specs.PlanarRow.{chosen}
 use native.Mathlib.Omega.{arith}
+use mathlib.Core.Path.{ap, _∙_}
 use borrow.Author.Needs.{needs}
-use lib.Ieee.{nan}
-use lib.ListN.{length, take}
-use Rattle.lists.specs.Lists.{last}
-use Rattle.planar.specs.Planar.{noPair}
-use Rattle.planar.specs.declared.PlanarPair.{PlanarPair}
-use Rattle.planar.specs.declared.Law.the-variants.{Inverse}
-use Rattle.planar_row.specs.PlanarRow.{contains, chosen}
-use Rattle.lists.proofs.Search.{first-here, first-on}
-use Rattle.planar_row.proofs.Branches.{foundFrom, found-none}
 use Rattle.planar_row.proofs.chosen_pair.Statement.{statement}
 use Rattle.planar_row.proofs.chosen_pair.Tie as tie
 
--- what the machine reads past the end of an array of pairs
-abbrev past : PlanarPair
-past = record { start = nan; gap = nan; a = 0; b = 0; law = Inverse nan nan nan nan }
+array-copy-out-t9 : tie.Need-array-copy-out-t9
+array-copy-out-t9 c = search needs
 
-abbrev Inv-loop : tie.InvT-loop
-Inv-loop n az pairs i₀ i = (i ≤ n) × (foundFrom az pairs n i ≡ chosen az (take n pairs))
+array-copy-out-t12 : tie.Need-array-copy-out-t12
+array-copy-out-t12 c = search needs
 
-abbrev μ-loop : tie.MeasureT-loop
-μ-loop n az pairs i₀ i = n - i
+array-copy-out-t15 : tie.Need-array-copy-out-t15
+array-copy-out-t15 c = search needs
 
-loop-holds : tie.Need-loop-holds Inv-loop μ-loop
-unfolding chosen
-loop-holds c = (omega arith, refl)
+array-copy-out-t18 : tie.Need-array-copy-out-t18
+array-copy-out-t18 c = search needs
 
-mul-p : tie.Need-mul-p Inv-loop μ-loop
-mul-p c = omega arith
+array-copy-out-t21 : tie.Need-array-copy-out-t21
+array-copy-out-t21 c = search needs
 
-array-copy-out-p : tie.Need-array-copy-out-p Inv-loop μ-loop
-array-copy-out-p c = omega arith
+array-copy-out-t24 : tie.Need-array-copy-out-t24
+array-copy-out-t24 c = search needs
 
-is-inside-requires : tie.Need-is-inside-requires Inv-loop μ-loop
-is-inside-requires c κs = search needs
+array-copy-out-t27 : tie.Need-array-copy-out-t27
+array-copy-out-t27 c = search needs
 
-returns : tie.Need-returns Inv-loop μ-loop
+array-copy-out-t30 : tie.Need-array-copy-out-t30
+array-copy-out-t30 c = search needs
+
+chosen-of-few-requires : tie.Need-chosen-of-few-requires
+chosen-of-few-requires c κs = search needs
+
+returns : tie.Need-returns
 returns c =
-    let l = c .before .before .before .before in
-    let s = l .before in
-    let long : length (s .args .t1) ≡ 40 = s .good .0 .1 .0 .1 in
-    sym (first-here (contains (s .args .az)) (s .args .t1) (s .args .n) (l .loop .i) past (omega arith) (omega arith) (last (take (s .args .n) (s .args .t1)) noPair)
-    (sym (c .before .is-inside .ensures) ∙ c .if1 .taken))
-    ∙ l .loop .inv .1
+    let a = c .before .before .before .before .before .before .before .before .before .before .args in
+    c .chosen-of-few .ensures ∙ ap (chosen (a .az)) (front _ (a .t1) (a .n) (c .before .before .before .before .before .before .before .before .before .if1 .taken) (omega (arith, c .before .before .before .before .before .before .before .before .before .before .good .0 .1 .0 .1)))
 
-add-i : tie.Need-add-i Inv-loop μ-loop
-add-i c = omega arith
+chosen-of-many-requires : tie.Need-chosen-of-many-requires
+chosen-of-many-requires c κs = search needs
 
-loop-less : tie.Need-loop-less Inv-loop μ-loop
-loop-less c = omega arith
-
-loop-again : tie.Need-loop-again Inv-loop μ-loop
-loop-again c =
-    let l = c .before .before .before .before in
-    let s = l .before in
-    let long : length (s .args .t1) ≡ 40 = s .good .0 .1 .0 .1 in (
-      omega arith,
-      sym (first-on (contains (s .args .az)) (s .args .t1) (s .args .n) (l .loop .i) past (omega arith) (omega arith) (last (take (s .args .n) (s .args .t1)) noPair)
-          (sym (c .before .is-inside .ensures) ∙ c .if1 .left))
-          ∙ l .loop .inv .1,
-    )
-
-sub-result : tie.Need-sub-result Inv-loop μ-loop
-sub-result c = omega arith
-
-mul-result : tie.Need-mul-result Inv-loop μ-loop
-mul-result c = omega arith
-
-array-copy-out-result : tie.Need-array-copy-out-result Inv-loop μ-loop
-array-copy-out-result c = omega arith
-
-returns-2 : tie.Need-returns-2 Inv-loop μ-loop
-returns-2 c =
-    let l = c .before .before in
-    let s = l .before in
-    let long : length (s .args .t1) ≡ 40 = s .good .0 .1 .0 .1 in
-    sym (found-none (s .args .az) (s .args .t1) (s .args .n) (l .loop .i) past (omega arith) (omega arith) (c .before .loop-test .left)) ∙ l .loop .inv .1
+returns-2 : tie.Need-returns-2
+returns-2 c = search needs
 
 pub chosen-pair-spec : {M : Type 1} → statement M
 chosen-pair-spec =
     tie.close
     (tie.spec
-    Inv-loop
-    μ-loop
-    loop-holds
-    mul-p
-    array-copy-out-p
-    is-inside-requires
+    array-copy-out-t9
+    array-copy-out-t12
+    array-copy-out-t15
+    array-copy-out-t18
+    array-copy-out-t21
+    array-copy-out-t24
+    array-copy-out-t27
+    array-copy-out-t30
+    chosen-of-few-requires
     returns
-    add-i
-    loop-less
-    loop-again
-    sub-result
-    mul-result
-    array-copy-out-result
+    chosen-of-many-requires
     returns-2)
