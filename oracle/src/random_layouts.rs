@@ -170,7 +170,7 @@ fn next_position(r: &mut Random, earlier: &[Position], manner: Manner, repeats: 
 }
 
 /// One random layout; one in fifteen has numbers left over or too many.
-fn draw(r: &mut Random) -> Layout {
+pub fn draw(r: &mut Random) -> Layout {
     let (n, manner, mixed, repeats) = (speakers(r), r.pick(&MANNERS), r.below(5) == 0, r.below(3) == 0);
     let mut positions: Vec<Position> = Vec::new();
     for _ in 0..n {

@@ -1,0 +1,5 @@
+pub mod Arrays
+pub mod Records
+pub mod Rows
+pub mod Sessions
+pub mod Meaning

@@ -1,0 +1,44 @@
+// The mixed gain and the ramp.
+ghost use mathlib.Core.Path.{_≡_};
+ghost use Prim.Native.Nat.{min};
+ghost use lib.ListN.{length};
+ghost use Rattle.ramp.specs.Mixed.{normalizedLerpGainOf};
+ghost use Rattle.ramp.specs.Ramp.{rampAddOf};
+ghost use Rattle.boundary.specs.Arrays.{at, Filled};
+use crate::least;
+
+#[no_mangle]
+pub extern "C" fn rt_normalized_lerp_gain(from: f32, to: f32, dot: f32, t: f32) -> f32
+    ensures { λ r. ⌜ r ≡ normalizedLerpGainOf from to dot t ⌝ }
+{
+    ramp::normalized_lerp_gain(from, to, dot, t)
+}
+
+// The gain of each four numbers.
+#[no_mangle]
+pub extern "C" fn rt_normalized_lerp_gain_all(
+    from: &[f32],
+    to: &[f32],
+    dot: &[f32],
+    t: &[f32],
+    dst: &mut [f32],
+)
+    ensures { λ _. ⌜ Filled (min (min (length (now (from .entry))) (length (now (to .entry)))) (min (min (length (now (dot .entry))) (length (now (t .entry)))) (length (now (dst .entry))))) (λ i. normalizedLerpGainOf (at (now (from .entry)) i) (at (now (to .entry)) i) (at (now (dot .entry)) i) (at (now (t .entry)) i)) (now (dst .entry)) (now (dst .exit)) ⌝ }
+{
+    let n = least(
+        least(from.len(), to.len()),
+        least(least(dot.len(), t.len()), dst.len()),
+    );
+    let mut i = 0;
+    while i < n {
+        dst[i] = ramp::normalized_lerp_gain(from[i], to[i], dot[i], t[i]);
+        i += 1;
+    }
+}
+
+#[no_mangle]
+pub extern "C" fn rt_ramp_add(dst: &mut [f32], src: &[f32], g0: f32, g1: f32)
+    ensures { λ _. ⌜ now (dst .exit) ≡ rampAddOf (now (dst .entry)) (now (src .entry)) g0 g1 ⌝ }
+{
+    ramp::ramp_add(dst, src, g0, g1)
+}
