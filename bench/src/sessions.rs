@@ -129,16 +129,22 @@ fn before(moving: bool, made: &Starts, panner: &WithStandins, samples: &[f32]) -
     }
 }
 
+/// Samples of a block, and start rows made by hand.
+fn inputs() -> (Vec<f32>, Starts) {
+    let mut r = Random::new(SEED);
+    let samples = drawn(&mut r, MAX_SOURCES * MAX_BLOCK, -1.0, 1.0);
+    let made = drawn(&mut r, MAX_SOURCES * MAX_OUTPUTS, 0.1, 0.9);
+    (samples, made.try_into().expect("a gain for each place"))
+}
+
 /// Microseconds of a block. Where it moves, every block starts at the rows made by hand.
 fn block(work: &str, moving: bool, aim: Aim) {
     let l = layout(NAME);
     let positions = triples(&l.numbers);
     let standins = WithStandins::new(&positions, &l.lfe);
     let libm = OnLibm::new(&positions, &l.lfe);
-    let mut r = Random::new(SEED);
-    let samples = &drawn(&mut r, MAX_SOURCES * MAX_BLOCK, -1.0, 1.0)[..];
-    let made = drawn(&mut r, MAX_SOURCES * MAX_OUTPUTS, 0.1, 0.9);
-    let made: Starts = made.try_into().expect("a gain for each place");
+    let (samples, made) = inputs();
+    let samples = &samples[..];
     let mut lent = before(moving, &made, &standins, samples);
     let begin = |starts: &mut Starts| {
         if moving {
@@ -164,6 +170,25 @@ fn block(work: &str, moving: bool, aim: Aim) {
     };
     let times = least(&mut lent, [&ours, &standins, &libm]);
     print(work, times.map(|s| vec![s * 1e6]), aim);
+}
+
+/// The same of a block standing still, against `render` of the oracle's record.
+fn block_of_record(work: &str) {
+    let l = layout(NAME);
+    let panner = WithStandins::new(&triples(&l.numbers), &l.lfe);
+    let (samples, made) = inputs();
+    let samples = &samples[..];
+    let mut lent = before(false, &made, &panner, samples);
+    let ours = |s: &mut Sides| {
+        boundary::render(&mut s.ours, MAX_BLOCK, black_box(samples), &mut s.outputs);
+    };
+    let theirs = |s: &mut Sides| {
+        s.standins
+            .render(MAX_BLOCK, black_box(samples), &mut s.outputs);
+    };
+    let times = least(&mut lent, [&ours, &theirs]);
+    let [ours, theirs] = times.map(|s| vec![s * 1e6]);
+    print(work, [ours, theirs, vec![]], Aim::NONE);
 }
 
 /// Nanoseconds of a call on source 0, of which a pass has so many.
@@ -212,10 +237,15 @@ pub fn lines() {
         Aim::NONE,
     );
     block("block of 8 × 40 × 1,024, all ramping, µs", true, ramping);
-    let pair = "place and take back, ns";
+    block_of_record("render standing still, the oracle's record, µs");
+    let pair = "place and take back, the oracle's record, ns";
     calls(pair, DIRECTIONS, place_take_back, oracle_place_take_back);
-    calls("settle, ns", 1, settle, oracle_settle);
+    calls("settle, the oracle's record, ns", 1, settle, oracle_settle);
     let bytes = [size_of::<Session>(), size_of::<OracleSession>()];
     let [ours, theirs] = bytes.map(|n| vec![n as f64]);
-    print("session, bytes", [ours, theirs, vec![]], Aim::NONE);
+    print(
+        "session, the oracle's record, bytes",
+        [ours, theirs, vec![]],
+        Aim::NONE,
+    );
 }
