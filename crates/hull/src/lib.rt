@@ -411,7 +411,7 @@ fn put_numbers(to: &mut [u8; 240], t: usize, i: usize, j: usize, k: usize)
     to[at + 2] = k as u8;
 }
 
-// The inverse of triplet t stored, entry e at e * 80 + t.
+// The inverse of triplet t stored, entry e at e * 80 + t. Origin of 80: document 01, refusal 4.
 fn put_inverse(to: &mut [f32; 720], t: usize, m: [f32; 9])
     requires { ⌜ t < 80 ⌝ }
     ensures { λ _. ⌜ now (to .exit) ≡ inversesWith (now (to .entry)) t m 9 ⌝ }
@@ -455,6 +455,7 @@ pub fn hull_triplets(pts: &[f64; 162], n: usize) -> Hull
                     continue 'third;
                 }
                 let t = h.count;
+                // Origin: document 01, refusal 4
                 if 80 <= t {
                     h.over = true;
                     continue 'third;

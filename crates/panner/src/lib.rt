@@ -148,6 +148,7 @@ fn pairs_over(ps: [PlanarPair; 40], n: usize, bound: u8) -> bool
     requires { ⌜ n ≤ 40 ⌝ }
     ensures { λ r. ⌜ r ≡ any (λ x. leb bound x) (flatMap (λ p. p .a ∷ p .b ∷ []) (take n ps)) ⌝ }
 {
+    // Origin: the ring of a house seldom has more than 8 speakers; any number up to 40 serves
     if n <= 8 {
         let few = [ps[0], ps[1], ps[2], ps[3], ps[4], ps[5], ps[6], ps[7]];
         return few_over(few, n, bound);

@@ -113,6 +113,7 @@ fn chosen_pair(pairs: [PlanarPair; 40], n: usize, az: f32) -> PlanarPair
     requires { ⌜ (0 < n) × (n ≤ 40) ⌝ }
     ensures { λ r. ⌜ r ≡ chosen az (take n pairs) ⌝ }
 {
+    // Origin: the ring of a house seldom has more than 8 speakers; any number up to 40 serves
     if n <= 8 {
         let few = [
             pairs[0],
