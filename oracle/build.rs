@@ -55,25 +55,85 @@ const INSTRUMENTS: [Swap; 1] = [swap(
 /// The tolerances as variables: `get` gives the value in force, `seen` notes a test's outcome.
 /// The numbers are places of src/tolerances.rs, `TOLERANCES`.
 const TOLERANCES: [Swap; 21] = [
-    swap("if l <= 1e-6 || !l.is_finite() {", "if seen(0, l <= get(0)) || !l.is_finite() {", 1),
-    swap("let lo = PLANAR_MAX_ELEVATION;", "let lo = get(1) as f32;", 1),
-    swap("u[1].abs() <= (PLANAR_MAX_ELEVATION as f64).standin_sin()", "seen(1, u[1].abs() <= get(1).standin_sin())", 1),
-    swap("if (gap as f32) < MAX_VBAP_GAP {", "if seen(2, (gap as f32) < get(2) as f32) {", 1),
-    swap("if m == 2 && i == 1 && gap < 1e-9 {", "if m == 2 && i == 1 && seen(3, gap < get(3)) {", 1),
+    swap(
+        "if l <= 1e-6 || !l.is_finite() {",
+        "if seen(0, l <= get(0)) || !l.is_finite() {",
+        1,
+    ),
+    swap(
+        "let lo = PLANAR_MAX_ELEVATION;",
+        "let lo = get(1) as f32;",
+        1,
+    ),
+    swap(
+        "u[1].abs() <= (PLANAR_MAX_ELEVATION as f64).standin_sin()",
+        "seen(1, u[1].abs() <= get(1).standin_sin())",
+        1,
+    ),
+    swap(
+        "if (gap as f32) < MAX_VBAP_GAP {",
+        "if seen(2, (gap as f32) < get(2) as f32) {",
+        1,
+    ),
+    swap(
+        "if m == 2 && i == 1 && gap < 1e-9 {",
+        "if m == 2 && i == 1 && seen(3, gap < get(3)) {",
+        1,
+    ),
     swap("if gap < 1e-6 {", "if seen(4, gap < get(4)) {", 1),
-    swap("if det.abs() < 1e-9 {\n                    None", "if seen(5, det.abs() < get(5)) {\n                    None", 1),
-    swap("const EPS: f64 = 1e-7;", "#[allow(non_snake_case)]\n        let EPS: f64 = get(6);", 1),
-    swap("if !all_below && !all_above {", "if seen(6, !all_below && !all_above) {", 1),
+    swap(
+        "if det.abs() < 1e-9 {\n                    None",
+        "if seen(5, det.abs() < get(5)) {\n                    None",
+        1,
+    ),
+    swap(
+        "const EPS: f64 = 1e-7;",
+        "#[allow(non_snake_case)]\n        let EPS: f64 = get(6);",
+        1,
+    ),
+    swap(
+        "if !all_below && !all_above {",
+        "if seen(6, !all_below && !all_above) {",
+        1,
+    ),
     swap("if nl < 1e-9 {", "if seen(7, nl < get(7)) {", 1),
     swap("if d < 1e-4 {", "if seen(8, d < get(8)) {", 1),
-    swap("if nrm[0].abs() < 0.9 {", "if seen(9, nrm[0].abs() < get(9)) {", 1),
-    swap("if det.abs() < 1e-9 {\n                        continue", "if seen(10, det.abs() < get(10)) {\n                        continue", 1),
-    swap("p[1] * y >= 1.0 - 1e-6", "seen(11, p[1] * y >= 1.0 - get(11))", 1),
-    swap("if nearest >= 1.0 - 1e-6 {", "if seen(12, nearest >= 1.0 - get(12)) {", 1),
+    swap(
+        "if nrm[0].abs() < 0.9 {",
+        "if seen(9, nrm[0].abs() < get(9)) {",
+        1,
+    ),
+    swap(
+        "if det.abs() < 1e-9 {\n                        continue",
+        "if seen(10, det.abs() < get(10)) {\n                        continue",
+        1,
+    ),
+    swap(
+        "p[1] * y >= 1.0 - 1e-6",
+        "seen(11, p[1] * y >= 1.0 - get(11))",
+        1,
+    ),
+    swap(
+        "if nearest >= 1.0 - 1e-6 {",
+        "if seen(12, nearest >= 1.0 - get(12)) {",
+        1,
+    ),
     swap("nearest < b - 1e-9", "seen(13, nearest < b - get(13))", 1),
-    swap("pts.len() - nreal < MAX_IMAGINARY {", "seen(14, pts.len() - nreal < get(14) as usize) {", 1),
-    swap("if rel <= p.gap + INSIDE_EPS {", "if seen(15, rel <= p.gap + get(15) as f32) {", 1),
-    swap("if norm > 1e-12 {", "if seen(16, norm > get(16) as f32) {", 1),
+    swap(
+        "pts.len() - nreal < MAX_IMAGINARY {",
+        "seen(14, pts.len() - nreal < get(14) as usize) {",
+        1,
+    ),
+    swap(
+        "if rel <= p.gap + INSIDE_EPS {",
+        "if seen(15, rel <= p.gap + get(15) as f32) {",
+        1,
+    ),
+    swap(
+        "if norm > 1e-12 {",
+        "if seen(16, norm > get(16) as f32) {",
+        1,
+    ),
     swap("if pow > 1e-12 {", "if seen(17, pow > get(17) as f32) {", 1),
     swap(".standin_max(1e-12)", ".standin_max(get(18) as f32)", 1),
 ];
@@ -114,7 +174,13 @@ fn swapped(mut text: String, swaps: &[Swap]) -> String {
 
 /// An included file may not open with inner doc comments: `//!` becomes `//`.
 fn includable(text: &str) -> String {
-    text.lines().map(|l| l.strip_prefix("//!").map_or(l.to_string(), |r| format!("//{r}")) + "\n").collect()
+    text.lines()
+        .map(|l| {
+            l.strip_prefix("//!")
+                .map_or(l.to_string(), |r| format!("//{r}"))
+                + "\n"
+        })
+        .collect()
 }
 
 fn main() {
@@ -122,15 +188,23 @@ fn main() {
     let docs = env::var("PANNER_DOCS").unwrap_or("../../shared/docs".to_string());
     let path = PathBuf::from(docs).join("src/crates/quasar-dsp/src/vbap.rs");
     println!("cargo:rerun-if-changed={}", path.display());
-    let source = fs::read_to_string(&path)
-        .unwrap_or_else(|e| panic!("{}: {e}; PANNER_DOCS must name the folder of the documents", path.display()));
+    let source = fs::read_to_string(&path).unwrap_or_else(|e| {
+        panic!(
+            "{}: {e}; PANNER_DOCS must name the folder of the documents",
+            path.display()
+        )
+    });
     let source = includable(&source);
     let text = swapped(swapped(source.clone(), &STANDINS), &INSTRUMENTS);
     for (what, count) in LEFT {
         expect(what, text.matches(what).count(), count);
     }
     let out = PathBuf::from(env::var("OUT_DIR").expect("set by cargo"));
-    fs::write(out.join("vbap_measured.rs"), swapped(text.clone(), &TOLERANCES)).expect("writes into OUT_DIR");
+    fs::write(
+        out.join("vbap_measured.rs"),
+        swapped(text.clone(), &TOLERANCES),
+    )
+    .expect("writes into OUT_DIR");
     fs::write(out.join("vbap_standins.rs"), text).expect("writes into OUT_DIR");
     fs::write(out.join("vbap_libm.rs"), source).expect("writes into OUT_DIR");
 }

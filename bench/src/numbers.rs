@@ -7,7 +7,7 @@ use driver::boundary;
 use oracle::random::Random;
 use oracle::standins;
 
-use crate::measure::compared;
+use crate::measure::{compared, Bits};
 use crate::table::{print, Aim};
 
 /// Numbers of one array. The processor's branch prediction learns the course of the smaller one
@@ -25,41 +25,38 @@ fn drawn(count: usize, low: f64, high: f64) -> Vec<f64> {
     (0..count).map(|_| r.within(low, high)).collect()
 }
 
-fn narrowing(count: usize) -> Times {
-    let src = drawn(count, -1000.0, 1000.0);
-    let ours = |dst: &mut Vec<f32>| boundary::narrow_all(black_box(&src), black_box(dst));
-    let cast = |dst: &mut Vec<f32>| {
-        for (d, s) in black_box(dst).iter_mut().zip(black_box(&src)) {
-            *d = *s as f32;
+/// A function of one number that the processor has: ours over the array, the processor's on each.
+fn of_one<S: Copy, D: Bits + Default>(
+    work: &str,
+    src: &[S],
+    ours: fn(&[S], &mut [D]),
+    theirs: impl Fn(S) -> D,
+) -> Times {
+    let ours = |dst: &mut Vec<D>| ours(black_box(src), black_box(dst));
+    let theirs = |dst: &mut Vec<D>| {
+        for (d, s) in black_box(dst).iter_mut().zip(black_box(src)) {
+            *d = theirs(*s);
         }
     };
-    let [a, c] = compared("narrowing", &mut vec![0.0; count], [&ours, &cast]);
+    let mut lent = vec![D::default(); src.len()];
+    let [a, c] = compared(work, &mut lent, [&ours, &theirs]);
     [Some(a), None, Some(c)]
+}
+
+fn narrowing(count: usize) -> Times {
+    let src = drawn(count, -1000.0, 1000.0);
+    of_one("narrowing", &src, boundary::narrow_all, |x| x as f32)
 }
 
 fn roots_32(count: usize) -> Times {
     let wide = drawn(count, 0.0, 1000.0);
     let src: Vec<f32> = wide.iter().map(|&x| x as f32).collect();
-    let ours = |dst: &mut Vec<f32>| boundary::sqrt32_all(black_box(&src), black_box(dst));
-    let root = |dst: &mut Vec<f32>| {
-        for (d, s) in black_box(dst).iter_mut().zip(black_box(&src)) {
-            *d = s.sqrt();
-        }
-    };
-    let [a, c] = compared("root, 32 bits", &mut vec![0.0; count], [&ours, &root]);
-    [Some(a), None, Some(c)]
+    of_one("root, 32 bits", &src, boundary::sqrt32_all, f32::sqrt)
 }
 
 fn roots_64(count: usize) -> Times {
     let src = drawn(count, 0.0, 1000.0);
-    let ours = |dst: &mut Vec<f64>| boundary::sqrt64_all(black_box(&src), black_box(dst));
-    let root = |dst: &mut Vec<f64>| {
-        for (d, s) in black_box(dst).iter_mut().zip(black_box(&src)) {
-            *d = s.sqrt();
-        }
-    };
-    let [a, c] = compared("root, 64 bits", &mut vec![0.0; count], [&ours, &root]);
-    [Some(a), None, Some(c)]
+    of_one("root, 64 bits", &src, boundary::sqrt64_all, f64::sqrt)
 }
 
 /// Sine and cosine together, of angles up to a bound.

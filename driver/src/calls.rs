@@ -8,7 +8,7 @@ use oracle::random::Random;
 use oracle::random_layouts::draw;
 use oracle::session::{open, Call, Session as OracleSession, DEPTH, MAX_BLOCK};
 
-use crate::hex::{any, first_other, planted, word, words};
+use crate::hex::{any, first_other, planted, samples, word, words};
 use crate::layouts::{by_hand, other_field};
 use crate::tally::Tally;
 
@@ -76,15 +76,7 @@ fn buffer(r: &mut Random, wanted: usize) -> Vec<f32> {
         wanted
     };
     let ordinary = r.below(3) > 0;
-    (0..n)
-        .map(|_| {
-            if ordinary {
-                r.within(-1.0, 1.0) as f32
-            } else {
-                any(r)
-            }
-        })
-        .collect()
+    samples(r, n, ordinary)
 }
 
 fn block(r: &mut Random) -> usize {

@@ -16,6 +16,18 @@ pub fn any(r: &mut Random) -> f32 {
     f32::from_bits(bits as u32)
 }
 
+/// So many samples, ordinary ones from −1 to 1, or of any bits.
+pub fn samples(r: &mut Random, n: usize, ordinary: bool) -> Vec<f32> {
+    let sample = |_| {
+        if ordinary {
+            r.within(-1.0, 1.0) as f32
+        } else {
+            any(r)
+        }
+    };
+    (0..n).map(sample).collect()
+}
+
 /// What a place holds before a call: a NaN, signalling or quiet, with a payload of its own.
 pub fn planted(r: &mut Random, length: usize) -> Vec<f32> {
     // Origin: IEEE 754-2019, 6.2.1; the top bit of the fraction tells the quiet ones.

@@ -39,11 +39,7 @@ fn filled(r: &mut Random) -> Session {
         &mut s.record.pair_bytes,
         &mut s.record.slots,
         &mut s.record.pt_out,
-    ] {
-        bytes.fill(byte);
-    }
-    for bytes in [
-        &mut s.record.idx[..],
+        &mut s.record.idx,
         &mut s.record.num_nbrs,
         &mut s.record.imag_nbrs,
         &mut s.counts,

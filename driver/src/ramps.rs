@@ -4,7 +4,7 @@ use driver::boundary;
 use oracle::random::Random;
 use oracle::source::vbap_standins::{normalized_lerp_gain, ramp_add};
 
-use crate::hex::{any, first_other, planted, word, words};
+use crate::hex::{any, first_other, planted, samples, word, words};
 use crate::tally::Tally;
 
 /// Mixed gains of one case.
@@ -28,24 +28,17 @@ fn length(r: &mut Random) -> usize {
     }
 }
 
-fn samples(r: &mut Random, n: usize) -> Vec<f32> {
+/// So many samples: half of the time ordinary ones.
+fn drawn(r: &mut Random, n: usize) -> Vec<f32> {
     let ordinary = r.below(2) == 0;
-    (0..n)
-        .map(|_| {
-            if ordinary {
-                r.within(-1.0, 1.0) as f32
-            } else {
-                any(r)
-            }
-        })
-        .collect()
+    samples(r, n, ordinary)
 }
 
 /// A ramp of any two lengths; the samples behind the shorter are planted.
 pub fn ramp_case(r: &mut Random, tally: &mut Tally) -> Result<(), String> {
     let n = length(r);
     let m = if r.below(2) == 0 { n } else { length(r) };
-    let (mut dst, src) = (samples(r, n.min(m)), samples(r, m));
+    let (mut dst, src) = (drawn(r, n.min(m)), drawn(r, m));
     dst.extend(planted(r, n - n.min(m)));
     let g0 = gain(r);
     let g1 = if r.below(4) == 0 { g0 } else { gain(r) };

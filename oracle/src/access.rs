@@ -16,12 +16,23 @@ impl VbapPanner {
                 r.kind = crate::record::Kind::Planar;
                 r.num_pairs = pairs.len();
                 for (place, p) in r.pairs.iter_mut().zip(pairs) {
-                    *place = crate::record::Pair { start: p.start, gap: p.gap, a: p.a as u8, b: p.b as u8, law: p.inv };
+                    *place = crate::record::Pair {
+                        start: p.start,
+                        gap: p.gap,
+                        a: p.a as u8,
+                        b: p.b as u8,
+                        law: p.inv,
+                    };
                 }
                 r.num_slots = slots.len();
                 r.slots[..slots.len()].copy_from_slice(&bytes(slots));
             }
-            Kind::Hull { pt_out, pt_dir, tris, imag_nbrs } => {
+            Kind::Hull {
+                pt_out,
+                pt_dir,
+                tris,
+                imag_nbrs,
+            } => {
                 r.kind = crate::record::Kind::Hull;
                 r.num_real = pt_out.len();
                 r.pt_out[..pt_out.len()].copy_from_slice(&bytes(pt_out));
@@ -49,7 +60,13 @@ impl VbapPanner {
             crate::record::Kind::Planar => Kind::Planar {
                 pairs: r.pairs[..r.num_pairs]
                     .iter()
-                    .map(|p| PlanarPair { a: p.a as usize, b: p.b as usize, start: p.start, gap: p.gap, inv: p.law })
+                    .map(|p| PlanarPair {
+                        a: p.a as usize,
+                        b: p.b as usize,
+                        start: p.start,
+                        gap: p.gap,
+                        inv: p.law,
+                    })
                     .collect(),
                 slots: places(&r.slots[..r.num_slots]),
             },
@@ -57,14 +74,20 @@ impl VbapPanner {
                 pt_out: places(&r.pt_out[..r.num_real]),
                 pt_dir: r.pt_dir[..r.num_real].to_vec(),
                 tris: (0..r.num_tris)
-                    .map(|n| Triplet { idx: r.idx[n].map(|p| p as usize), inv: r.inv[n] })
+                    .map(|n| Triplet {
+                        idx: r.idx[n].map(|p| p as usize),
+                        inv: r.inv[n],
+                    })
                     .collect(),
                 imag_nbrs: (0..r.num_imag)
                     .map(|k| places(&r.imag_nbrs[k][..r.num_nbrs[k] as usize]))
                     .collect(),
             },
         };
-        Self { num_outputs: r.num_outputs, kind }
+        Self {
+            num_outputs: r.num_outputs,
+            kind,
+        }
     }
 }
 

@@ -12,7 +12,10 @@ fn layout(name: impl Into<String>, positions: &[Position]) -> Layout {
 
 /// Each coordinate in metres, rounded to so many places a metre.
 pub fn rounded(positions: &[Position], radius: f64, places: f64) -> Vec<Position> {
-    positions.iter().map(|p| p.map(|x| ((x as f64 * radius * places).round() / places) as f32)).collect()
+    positions
+        .iter()
+        .map(|p| p.map(|x| ((x as f64 * radius * places).round() / places) as f32))
+        .collect()
 }
 
 // ---- houses
@@ -23,7 +26,10 @@ fn standards() -> Vec<Layout> {
     let seven = || fan(&[-30.0, 30.0, 0.0, 45.0, -90.0, 90.0, -135.0, 135.0], 0.0);
     let mut five_at_origin = five();
     five_at_origin[3] = [0.0; 3];
-    let mut all: Vec<Layout> = ordinary().iter().map(|o| Layout::new(o.name, &o.positions, &o.lfe)).collect();
+    let mut all: Vec<Layout> = ordinary()
+        .iter()
+        .map(|o| Layout::new(o.name, &o.positions, &o.lfe))
+        .collect();
     all.extend([
         layout("LCR", &fan(&[-30.0, 0.0, 30.0], 0.0)),
         layout("stereo at 90", &fan(&[-90.0, 90.0], 0.0)),
@@ -32,8 +38,21 @@ fn standards() -> Vec<Layout> {
         layout("5.1, LFE at the origin and not named", &five_at_origin),
         layout("5.1, LFE not named", &five()),
         Layout::new("5.1.2", &[five(), fan(&[-90.0, 90.0], 45.0)].concat(), &[3]),
-        Layout::new("7.1.2", &[seven(), fan(&[-90.0, 90.0], 45.0)].concat(), &[3]),
-        Layout::new("9.1.6", &[seven(), fan(&[-60.0, 60.0], 0.0), fan(&[-45.0, 45.0, -90.0, 90.0, -135.0, 135.0], 45.0)].concat(), &[3]),
+        Layout::new(
+            "7.1.2",
+            &[seven(), fan(&[-90.0, 90.0], 45.0)].concat(),
+            &[3],
+        ),
+        Layout::new(
+            "9.1.6",
+            &[
+                seven(),
+                fan(&[-60.0, 60.0], 0.0),
+                fan(&[-45.0, 45.0, -90.0, 90.0, -135.0, 135.0], 45.0),
+            ]
+            .concat(),
+            &[3],
+        ),
         Layout::new("22.2", &twenty_two(), &[3, 9]),
         layout("22.2, LFE not named", &twenty_two()),
     ]);
@@ -42,7 +61,9 @@ fn standards() -> Vec<Layout> {
 
 /// 22.2 in the order of its channels. Origin: ITU-R BS.2051-3, system H.
 fn twenty_two() -> Vec<Position> {
-    let middle = [-60.0, 60.0, 0.0, -45.0, -135.0, 135.0, -30.0, 30.0, 180.0, 45.0, -90.0, 90.0];
+    let middle = [
+        -60.0, 60.0, 0.0, -45.0, -135.0, 135.0, -30.0, 30.0, 180.0, 45.0, -90.0, 90.0,
+    ];
     let mut all = fan(&middle, 0.0);
     (all[3], all[9]) = (at(-45.0, -30.0), at(45.0, -30.0));
     all.extend(fan(&[-45.0, 45.0, 0.0], 45.0));
@@ -56,7 +77,10 @@ fn rings() -> Vec<Layout> {
     let mut all = Vec::new();
     for n in [3, 4, 5, 6, 8, 12, 16, 24, 40] {
         for first in [0.0, 10.0, 180.0 / n as f64] {
-            all.push(layout(format!("ring of {n} from {first}"), &ring(n, first, 0.0)));
+            all.push(layout(
+                format!("ring of {n} from {first}"),
+                &ring(n, first, 0.0),
+            ));
         }
         all.push(layout(format!("ring of {n} up 4"), &ring(n, 0.0, 4.0)));
         all.push(layout(format!("ring of {n} down 4"), &ring(n, 0.0, -4.0)));
@@ -70,7 +94,10 @@ fn rings() -> Vec<Layout> {
 
 /// Rings one above the other: speakers of a ring, its first azimuth and its elevation.
 fn dome(rings: &[(usize, f64, f64)]) -> Vec<Position> {
-    rings.iter().flat_map(|&(n, first, elevation)| ring(n, first, elevation)).collect()
+    rings
+        .iter()
+        .flat_map(|&(n, first, elevation)| ring(n, first, elevation))
+        .collect()
 }
 
 fn domes() -> Vec<Layout> {
@@ -85,29 +112,65 @@ fn domes() -> Vec<Layout> {
     vec![
         layout("dome of 24", &aligned),
         layout("dome of 24 with zenith", &low),
-        layout("dome of 24, two rings", &dome(&[(16, 0.0, 5.0), (8, 0.0, 45.0)])),
+        layout(
+            "dome of 24, two rings",
+            &dome(&[(16, 0.0, 5.0), (8, 0.0, 45.0)]),
+        ),
         layout("dome of 24 in millimetres", &rounded(&aligned, 7.5, 1000.0)),
         layout("dome of 24 in centimetres", &rounded(&low, 7.5, 100.0)),
         layout("dome of 40", &forty),
         layout("dome of 40, zenith first", &mixed),
-        layout("dome of 40, four rings", &dome(&[(16, 0.0, 0.0), (12, 0.0, 22.5), (8, 0.0, 45.0), (4, 0.0, 67.5)])),
-        layout("dome of 40, two rings", &dome(&[(24, 0.0, -2.0), (16, 0.0, 40.0)])),
+        layout(
+            "dome of 40, four rings",
+            &dome(&[
+                (16, 0.0, 0.0),
+                (12, 0.0, 22.5),
+                (8, 0.0, 45.0),
+                (4, 0.0, 67.5),
+            ]),
+        ),
+        layout(
+            "dome of 40, two rings",
+            &dome(&[(24, 0.0, -2.0), (16, 0.0, 40.0)]),
+        ),
         layout("dome of 40 in millimetres", &rounded(&forty, 9.0, 1000.0)),
         Layout::new("dome of 38 and two subs", &subs, &[38, 39]),
-        layout("dome without its base", &dome(&[(8, 0.0, 30.0), (5, 0.0, 60.0), zenith])),
-        layout("dome and nadir", &[dome(&[(8, 0.0, 0.0), (4, 0.0, 45.0), zenith]), vec![[0.0, -1.0, 0.0]]].concat()),
-        layout("sphere of three rings", &dome(&[(8, 0.0, -30.0), (8, 22.5, 0.0), (8, 0.0, 30.0)])),
+        layout(
+            "dome without its base",
+            &dome(&[(8, 0.0, 30.0), (5, 0.0, 60.0), zenith]),
+        ),
+        layout(
+            "dome and nadir",
+            &[
+                dome(&[(8, 0.0, 0.0), (4, 0.0, 45.0), zenith]),
+                vec![[0.0, -1.0, 0.0]],
+            ]
+            .concat(),
+        ),
+        layout(
+            "sphere of three rings",
+            &dome(&[(8, 0.0, -30.0), (8, 22.5, 0.0), (8, 0.0, 30.0)]),
+        ),
     ]
 }
 
 /// Rings of equal azimuths, so that faces have four corners, as computed and rounded.
 fn prisms() -> Vec<Layout> {
     let mut all = Vec::new();
-    for (n, first, elevation) in [(3, 20.0, 60.0), (4, 0.0, 45.0), (6, 11.25, 60.0), (8, 7.5, 30.0), (12, 0.0, 20.0)] {
+    for (n, first, elevation) in [
+        (3, 20.0, 60.0),
+        (4, 0.0, 45.0),
+        (6, 11.25, 60.0),
+        (8, 7.5, 30.0),
+        (12, 0.0, 20.0),
+    ] {
         let two = dome(&[(n, first, 0.0), (n, first, elevation)]);
         all.push(layout(format!("two rings of {n}"), &two));
         for (radius, places) in [(1.0, 1e5), (1.0, 1e6), (1.0, 1e7), (2.5, 1e6), (4.0, 1e3)] {
-            all.push(layout(format!("two rings of {n}, {radius} m, a part in {places}"), &rounded(&two, radius, places)));
+            all.push(layout(
+                format!("two rings of {n}, {radius} m, a part in {places}"),
+                &rounded(&two, radius, places),
+            ));
         }
     }
     all
@@ -116,11 +179,39 @@ fn prisms() -> Vec<Layout> {
 fn halves() -> Vec<Layout> {
     let arc = [-90.0, -60.0, -30.0, 0.0, 30.0, 60.0, 90.0];
     vec![
-        layout("half dome", &[fan(&arc, 0.0), fan(&[-90.0, -45.0, 0.0, 45.0, 90.0], 35.0), fan(&[-90.0, 0.0, 90.0], 65.0)].concat()),
-        layout("half dome with zenith", &[fan(&arc, 0.0), fan(&[-60.0, 0.0, 60.0], 40.0), vec![TOP]].concat()),
-        layout("half dome, tilted", &[fan(&arc, 15.0), fan(&[-60.0, 0.0, 60.0], 50.0)].concat()),
-        layout("rear half dome", &[fan(&[90.0, 135.0, 180.0, -135.0, -90.0], 0.0), fan(&[120.0, 180.0, -120.0], 40.0)].concat()),
-        layout("left half dome", &[fan(&[0.0, -45.0, -90.0, -135.0, 180.0], 0.0), fan(&[-30.0, -90.0, -150.0], 45.0)].concat()),
+        layout(
+            "half dome",
+            &[
+                fan(&arc, 0.0),
+                fan(&[-90.0, -45.0, 0.0, 45.0, 90.0], 35.0),
+                fan(&[-90.0, 0.0, 90.0], 65.0),
+            ]
+            .concat(),
+        ),
+        layout(
+            "half dome with zenith",
+            &[fan(&arc, 0.0), fan(&[-60.0, 0.0, 60.0], 40.0), vec![TOP]].concat(),
+        ),
+        layout(
+            "half dome, tilted",
+            &[fan(&arc, 15.0), fan(&[-60.0, 0.0, 60.0], 50.0)].concat(),
+        ),
+        layout(
+            "rear half dome",
+            &[
+                fan(&[90.0, 135.0, 180.0, -135.0, -90.0], 0.0),
+                fan(&[120.0, 180.0, -120.0], 40.0),
+            ]
+            .concat(),
+        ),
+        layout(
+            "left half dome",
+            &[
+                fan(&[0.0, -45.0, -90.0, -135.0, 180.0], 0.0),
+                fan(&[-30.0, -90.0, -150.0], 45.0),
+            ]
+            .concat(),
+        ),
         layout("front line of 12", &wall(12, 1)),
         layout("front wall 4 by 2", &wall(4, 2)),
         layout("front wall 5 by 3", &wall(5, 3)),
@@ -132,12 +223,34 @@ fn halves() -> Vec<Layout> {
 
 /// A wall 4 m ahead, speakers 1 m apart, its lowest row on the horizon.
 pub fn wall(columns: i32, rows: i32) -> Vec<Position> {
-    (0..rows).flat_map(|y| (0..columns).map(move |x| [(2 * x - columns + 1) as f32 * 0.5, y as f32, -4.0])).collect()
+    (0..rows)
+        .flat_map(|y| {
+            (0..columns).map(move |x| [(2 * x - columns + 1) as f32 * 0.5, y as f32, -4.0])
+        })
+        .collect()
+}
+
+/// Five speakers far apart, to which docs/RATIONALE.md adds one beside the first.
+pub fn five_around() -> [Position; 5] {
+    [
+        at(20.0, 10.0),
+        at(110.0, 5.0),
+        at(-100.0, 0.0),
+        at(170.0, 20.0),
+        at(40.0, 70.0),
+    ]
 }
 
 /// Front-only, its centre speakers raised by some degrees.
 pub fn raised_centre(by: f64) -> Vec<Position> {
-    vec![at(-30.0, 0.0), at(30.0, 0.0), at(0.0, by), at(-30.0, 40.0), at(30.0, 40.0), at(0.0, 40.0 + by)]
+    vec![
+        at(-30.0, 0.0),
+        at(30.0, 0.0),
+        at(0.0, by),
+        at(-30.0, 40.0),
+        at(30.0, 40.0),
+        at(0.0, 40.0 + by),
+    ]
 }
 
 /// How a position of the horizon is turned into another plane.
@@ -155,10 +268,16 @@ fn planes() -> Vec<Layout> {
             ("tilted", |[x, _, z]| [x, x, z]),
         ];
         for (name, turn) in turned {
-            all.push(layout(format!("{name} plane, circle of {n}"), &circle(n).into_iter().map(turn).collect::<Vec<_>>()));
+            all.push(layout(
+                format!("{name} plane, circle of {n}"),
+                &circle(n).into_iter().map(turn).collect::<Vec<_>>(),
+            ));
         }
     }
-    all.push(layout("arc from front to back", &[F, [0.0, 1.0, -1.0], TOP, [0.0, 1.0, 1.0], BACK]));
+    all.push(layout(
+        "arc from front to back",
+        &[F, [0.0, 1.0, -1.0], TOP, [0.0, 1.0, 1.0], BACK],
+    ));
     all.push(layout("poles alone", &[TOP, [0.0, -1.0, 0.0]]));
     all
 }
@@ -182,7 +301,10 @@ fn signs([x, y, z]: Position) -> Vec<Position> {
 
 /// The sign changes of the three rotations of a position.
 fn rotations([x, y, z]: Position) -> Vec<Position> {
-    [[x, y, z], [y, z, x], [z, x, y]].into_iter().flat_map(signs).collect()
+    [[x, y, z], [y, z, x], [z, x, y]]
+        .into_iter()
+        .flat_map(signs)
+        .collect()
 }
 
 fn octahedron() -> Vec<Position> {
@@ -194,16 +316,33 @@ fn solids(r: &mut Random) -> Vec<Layout> {
     let (phi, inverse) = (1.618034, 0.618034);
     let cube = signs([1.0, 1.0, 1.0]);
     let all = [
-        ("tetrahedron", vec![[1.0, 1.0, 1.0], [1.0, -1.0, -1.0], [-1.0, 1.0, -1.0], [-1.0, -1.0, 1.0]]),
-        ("tetrahedron on a face", [ring(3, 0.0, -19.471221), vec![TOP]].concat()),
+        (
+            "tetrahedron",
+            vec![
+                [1.0, 1.0, 1.0],
+                [1.0, -1.0, -1.0],
+                [-1.0, 1.0, -1.0],
+                [-1.0, -1.0, 1.0],
+            ],
+        ),
+        (
+            "tetrahedron on a face",
+            [ring(3, 0.0, -19.471221), vec![TOP]].concat(),
+        ),
         ("octahedron", octahedron()),
         ("cube of ones", cube.clone()),
         ("cube and octahedron", [cube.clone(), octahedron()].concat()),
         ("cuboctahedron", rotations([1.0, 1.0, 0.0])),
         ("icosahedron", rotations([0.0, 1.0, phi])),
-        ("dodecahedron", [cube, rotations([0.0, inverse, phi])].concat()),
+        (
+            "dodecahedron",
+            [cube, rotations([0.0, inverse, phi])].concat(),
+        ),
         ("rhombicuboctahedron", rotations([1.0, 1.0, 2.4142137])),
-        ("cuboctahedron and axes", [rotations([1.0, 1.0, 0.0]), octahedron()].concat()),
+        (
+            "cuboctahedron and axes",
+            [rotations([1.0, 1.0, 0.0]), octahedron()].concat(),
+        ),
     ];
     let mut layouts = Vec::new();
     for (name, positions) in all {
@@ -212,7 +351,10 @@ fn solids(r: &mut Random) -> Vec<Layout> {
             shuffled.swap(n, r.below(n as u64 + 1) as usize);
         }
         layouts.push(layout(name, &positions));
-        layouts.push(layout(format!("{name}, reversed"), &positions.into_iter().rev().collect::<Vec<_>>()));
+        layouts.push(layout(
+            format!("{name}, reversed"),
+            &positions.into_iter().rev().collect::<Vec<_>>(),
+        ));
         layouts.push(layout(format!("{name}, shuffled"), &shuffled));
     }
     layouts
@@ -226,7 +368,10 @@ fn candidates() -> Vec<Layout> {
         for b in &all[i..] {
             layouts.push(layout(format!("candidates {a:?} {b:?}"), &[*a, *b]));
         }
-        layouts.push(layout(format!("cube and octahedron without {a:?}"), &all.iter().filter(|p| *p != a).copied().collect::<Vec<_>>()));
+        layouts.push(layout(
+            format!("cube and octahedron without {a:?}"),
+            &all.iter().filter(|p| *p != a).copied().collect::<Vec<_>>(),
+        ));
     }
     layouts
 }
@@ -240,14 +385,29 @@ fn tolerance_edges() -> Vec<Layout> {
         for (number, positions) in e.number.iter().zip(&e.layouts) {
             let mirrored: Vec<Position> = positions.iter().map(|[x, y, z]| [-x, -y, *z]).collect();
             let reversed: Vec<Position> = positions.iter().rev().copied().collect();
-            all.push(layout(format!("{name}, line {line}, at {number:e}"), positions));
-            all.push(layout(format!("{name}, line {line}, at {number:e}, mirrored"), &mirrored));
-            all.push(layout(format!("{name}, line {line}, at {number:e}, reversed"), &reversed));
+            all.push(layout(
+                format!("{name}, line {line}, at {number:e}"),
+                positions,
+            ));
+            all.push(layout(
+                format!("{name}, line {line}, at {number:e}, mirrored"),
+                &mirrored,
+            ));
+            all.push(layout(
+                format!("{name}, line {line}, at {number:e}, reversed"),
+                &reversed,
+            ));
         }
     }
     for k in 0..9 {
-        all.push(layout(format!("four of a circle, {k} places in"), &third_of_four(f32::from_bits(0xc0a00000 - k))));
-        all.push(layout(format!("four of a circle, {k} places out"), &third_of_four(f32::from_bits(0xc0a00000 + k))));
+        all.push(layout(
+            format!("four of a circle, {k} places in"),
+            &third_of_four(f32::from_bits(0xc0a00000 - k)),
+        ));
+        all.push(layout(
+            format!("four of a circle, {k} places out"),
+            &third_of_four(f32::from_bits(0xc0a00000 + k)),
+        ));
     }
     all
 }
@@ -257,10 +417,19 @@ fn planar_limit() -> Vec<Layout> {
     let mut all = Vec::new();
     for elevation in [5.0019, 5.00192, 5.001921, 5.001922, 5.00193, 5.002, 5.1] {
         for n in [2, 3, 8] {
-            all.push(layout(format!("ring of {n} up {elevation}"), &ring(n, 0.0, elevation)));
-            all.push(layout(format!("ring of {n} down {elevation}"), &ring(n, 0.0, -elevation)));
+            all.push(layout(
+                format!("ring of {n} up {elevation}"),
+                &ring(n, 0.0, elevation),
+            ));
+            all.push(layout(
+                format!("ring of {n} down {elevation}"),
+                &ring(n, 0.0, -elevation),
+            ));
         }
-        all.push(layout(format!("ring of 8, one up {elevation}"), &[ring(7, 0.0, 0.0), vec![at(20.0, elevation)]].concat()));
+        all.push(layout(
+            format!("ring of 8, one up {elevation}"),
+            &[ring(7, 0.0, 0.0), vec![at(20.0, elevation)]].concat(),
+        ));
     }
     all
 }
@@ -269,8 +438,12 @@ fn planar_limit() -> Vec<Layout> {
 fn zeros() -> Vec<Layout> {
     let signed = |[x, y, z]: Position| -> Vec<Position> {
         let both = |v: f32| if v == 0.0 { vec![0.0, -0.0] } else { vec![v] };
-        let pairs = both(x).into_iter().flat_map(|x| both(y).into_iter().map(move |y| (x, y)));
-        pairs.flat_map(|(x, y)| both(z).into_iter().map(move |z| [x, y, z])).collect()
+        let pairs = both(x)
+            .into_iter()
+            .flat_map(|x| both(y).into_iter().map(move |y| (x, y)));
+        pairs
+            .flat_map(|(x, y)| both(z).into_iter().map(move |z| [x, y, z]))
+            .collect()
     };
     let mut all = Vec::new();
     for a in signed(BACK) {
@@ -285,10 +458,16 @@ fn zeros() -> Vec<Layout> {
             positions[place] = p;
             all.push(layout(format!("octahedron with {p:?}"), &positions));
             all.push(layout(format!("{p:?} alone"), &[p]));
-            all.push(layout(format!("{p:?} beside a raised speaker"), &[p, at(33.0, 21.0)]));
+            all.push(layout(
+                format!("{p:?} beside a raised speaker"),
+                &[p, at(33.0, 21.0)],
+            ));
         }
     }
-    all.push(layout("signed zeros only", &[[0.0, -0.0, 0.0], [-0.0, -0.0, -0.0], [0.0; 3]]));
+    all.push(layout(
+        "signed zeros only",
+        &[[0.0, -0.0, 0.0], [-0.0, -0.0, -0.0], [0.0; 3]],
+    ));
     all
 }
 
@@ -299,32 +478,69 @@ fn coincident() -> Vec<Layout> {
     for p in [F, TOP, [1.0, 1.0, 1.0], [0.3, 0.4, -0.5]] {
         for n in [2, 3, 4, 40] {
             all.push(layout(format!("{n} times {p:?}"), &same(p, n)));
-            all.push(layout(format!("{n} times {p:?} and F"), &[same(p, n.min(39)), vec![F]].concat()));
+            all.push(layout(
+                format!("{n} times {p:?} and F"),
+                &[same(p, n.min(39)), vec![F]].concat(),
+            ));
         }
     }
     for (i, p) in octahedron().into_iter().enumerate() {
-        all.push(layout(format!("octahedron, {i} again last"), &[octahedron(), vec![p]].concat()));
-        all.push(layout(format!("octahedron, {i} again first"), &[vec![p], octahedron()].concat()));
-        all.push(layout(format!("octahedron, {i} twice more"), &[octahedron(), vec![p, [p[0] * 2.0, p[1] * 2.0, p[2] * 2.0]]].concat()));
+        all.push(layout(
+            format!("octahedron, {i} again last"),
+            &[octahedron(), vec![p]].concat(),
+        ));
+        all.push(layout(
+            format!("octahedron, {i} again first"),
+            &[vec![p], octahedron()].concat(),
+        ));
+        all.push(layout(
+            format!("octahedron, {i} twice more"),
+            &[octahedron(), vec![p, [p[0] * 2.0, p[1] * 2.0, p[2] * 2.0]]].concat(),
+        ));
     }
     for (i, p) in small.iter().enumerate() {
-        all.push(layout(format!("dome of 13, {i} again last"), &[small.clone(), vec![*p]].concat()));
-        all.push(layout(format!("dome of 13, {i} again first"), &[vec![*p], small.clone()].concat()));
+        all.push(layout(
+            format!("dome of 13, {i} again last"),
+            &[small.clone(), vec![*p]].concat(),
+        ));
+        all.push(layout(
+            format!("dome of 13, {i} again first"),
+            &[vec![*p], small.clone()].concat(),
+        ));
     }
     for n in [4, 5, 6, 8, 12] {
-        all.push(layout(format!("ring of {n}, two at the zenith last"), &[ring(n, 22.5, 0.0), vec![TOP, TOP]].concat()));
-        all.push(layout(format!("ring of {n}, two at the zenith first"), &[vec![TOP, TOP], ring(n, 22.5, 0.0)].concat()));
-        all.push(layout(format!("ring of {n}, each twice"), &[ring(n, 0.0, 0.0), ring(n, 0.0, 0.0)].concat()));
-        all.push(layout(format!("raised ring of {n}, each twice"), &[ring(n, 0.0, 20.0), ring(n, 0.0, 20.0)].concat()));
+        all.push(layout(
+            format!("ring of {n}, two at the zenith last"),
+            &[ring(n, 22.5, 0.0), vec![TOP, TOP]].concat(),
+        ));
+        all.push(layout(
+            format!("ring of {n}, two at the zenith first"),
+            &[vec![TOP, TOP], ring(n, 22.5, 0.0)].concat(),
+        ));
+        all.push(layout(
+            format!("ring of {n}, each twice"),
+            &[ring(n, 0.0, 0.0), ring(n, 0.0, 0.0)].concat(),
+        ));
+        all.push(layout(
+            format!("raised ring of {n}, each twice"),
+            &[ring(n, 0.0, 20.0), ring(n, 0.0, 20.0)].concat(),
+        ));
     }
-    all.push(layout("four speakers, silent hole", &[[-1.0, -1.0, -1.0], [-1.0, -1.0, 0.0], TOP, TOP]));
+    all.push(layout(
+        "four speakers, silent hole",
+        &[[-1.0, -1.0, -1.0], [-1.0, -1.0, 0.0], TOP, TOP],
+    ));
     all
 }
 
 /// Document 01's proving ground, and inputs whose readings docs/DECISIONS.md tells.
 fn documents() -> Vec<Layout> {
     let corners = [1.0, -1.0, 1.0, -1.0, 1.0, 1.0, -1.0, 1.0, -1.0];
-    let numbers = |name: &str, numbers: Vec<f32>| Layout { name: name.to_string(), numbers, lfe: vec![] };
+    let numbers = |name: &str, numbers: Vec<f32>| Layout {
+        name: name.to_string(),
+        numbers,
+        lfe: vec![],
+    };
     vec![
         numbers("no positions", vec![]),
         layout("F alone", &[F]),
@@ -343,33 +559,76 @@ fn documents() -> Vec<Layout> {
         numbers("three corners and 27 copies", repeated(&corners, LEFT, 27)),
         numbers("three corners and 37 copies", repeated(&corners, LEFT, 37)),
         layout("(-0, 0, 1), F, (0, 0, 1)", &[[-0.0, 0.0, 1.0], F, BACK]),
-        layout("forty in front, turned right", &front(40).iter().map(|[x, y, z]| [-z, *y, *x]).collect::<Vec<_>>()),
-        layout("forty in front, turned up", &front(40).iter().map(|[x, y, z]| [*x, -z, *y]).collect::<Vec<_>>()),
-        layout("forty in front, turned back", &front(40).iter().map(|[x, y, z]| [*x, *y, -z]).collect::<Vec<_>>()),
-        layout("forty in front in millimetres", &rounded(&front(40), 6.0, 1000.0)),
+        layout(
+            "forty in front, turned right",
+            &front(40)
+                .iter()
+                .map(|[x, y, z]| [-z, *y, *x])
+                .collect::<Vec<_>>(),
+        ),
+        layout(
+            "forty in front, turned up",
+            &front(40)
+                .iter()
+                .map(|[x, y, z]| [*x, -z, *y])
+                .collect::<Vec<_>>(),
+        ),
+        layout(
+            "forty in front, turned back",
+            &front(40)
+                .iter()
+                .map(|[x, y, z]| [*x, *y, -z])
+                .collect::<Vec<_>>(),
+        ),
+        layout(
+            "forty in front in millimetres",
+            &rounded(&front(40), 6.0, 1000.0),
+        ),
     ]
 }
 
 /// Two or three speakers that need many imaginary ones: near, but not on, cube diagonals.
 fn many_imaginary() -> Vec<Layout> {
     vec![
-        layout("two speakers, six imaginary", &[[-1.0, -1.0, -1.0001407], [1.0, -0.99999386, 1.0]]),
-        layout("two speakers, seven imaginary", &[[-0.9999926, -1.0, -1.0], [1.0007308, -1.0004683, 1.0]]),
+        layout(
+            "two speakers, six imaginary",
+            &[[-1.0, -1.0, -1.0001407], [1.0, -0.99999386, 1.0]],
+        ),
+        layout(
+            "two speakers, seven imaginary",
+            &[[-0.9999926, -1.0, -1.0], [1.0007308, -1.0004683, 1.0]],
+        ),
         layout("two speakers, eight imaginary", &eight_imaginary()),
-        layout("three speakers, eight imaginary", &[[-1.0, -1.0, 0.99999714], [1.0, -1.0, -1.0000001], [1.0, -1.0, 1.0]]),
+        layout(
+            "three speakers, eight imaginary",
+            &[
+                [-1.0, -1.0, 0.99999714],
+                [1.0, -1.0, -1.0000001],
+                [1.0, -1.0, 1.0],
+            ],
+        ),
     ]
 }
 
 /// The layout with the most imaginary speakers that was found.
 pub fn eight_imaginary() -> Vec<Position> {
-    vec![[1.0, -1.000003, -1.000024], [-1.0000017, -1.0000042, 0.9999982]]
+    vec![
+        [1.0, -1.000003, -1.000024],
+        [-1.0000017, -1.0000042, 0.9999982],
+    ]
 }
 
 /// Every count of numbers around the refusals.
 fn lengths() -> Vec<Layout> {
     let circle = ring(45, 0.0, 0.0).concat();
     let counts = (0..16).chain(117..=130);
-    counts.map(|n| Layout { name: format!("{n} numbers"), numbers: circle[..n].to_vec(), lfe: vec![] }).collect()
+    counts
+        .map(|n| Layout {
+            name: format!("{n} numbers"),
+            numbers: circle[..n].to_vec(),
+            lfe: vec![],
+        })
+        .collect()
 }
 
 fn lfe_lists() -> Vec<Layout> {
@@ -389,21 +648,65 @@ fn lfe_lists() -> Vec<Layout> {
         &[0, 256, 0, 2, 1 << 63, 2],
     ];
     let all_forty: Vec<usize> = (0..40).collect();
-    let mut all: Vec<Layout> = lists.iter().map(|l| Layout::new(format!("LFE {l:?}"), &small(), l)).collect();
-    all.push(Layout::new("forty speakers, all LFE", &front(40), &all_forty));
-    all.push(Layout::new("forty speakers, all but one LFE", &front(40), &all_forty[..39]));
-    all.push(Layout::new("forty speakers, all but two LFE", &front(40), &all_forty[..38]));
-    all.push(Layout::new("forty in front, one of them LFE", &front(40), &[17]));
-    all.push(Layout { name: "LFE without positions".to_string(), numbers: vec![], lfe: vec![0, 1] });
-    all.push(Layout { name: "refused with 1, with LFE".to_string(), numbers: vec![0.0; 4], lfe: vec![0] });
-    all.push(Layout { name: "refused with 2, all LFE".to_string(), numbers: vec![1.0; 123], lfe: (0..41).collect() });
+    let mut all: Vec<Layout> = lists
+        .iter()
+        .map(|l| Layout::new(format!("LFE {l:?}"), &small(), l))
+        .collect();
+    all.push(Layout::new(
+        "forty speakers, all LFE",
+        &front(40),
+        &all_forty,
+    ));
+    all.push(Layout::new(
+        "forty speakers, all but one LFE",
+        &front(40),
+        &all_forty[..39],
+    ));
+    all.push(Layout::new(
+        "forty speakers, all but two LFE",
+        &front(40),
+        &all_forty[..38],
+    ));
+    all.push(Layout::new(
+        "forty in front, one of them LFE",
+        &front(40),
+        &[17],
+    ));
+    all.push(Layout {
+        name: "LFE without positions".to_string(),
+        numbers: vec![],
+        lfe: vec![0, 1],
+    });
+    all.push(Layout {
+        name: "refused with 1, with LFE".to_string(),
+        numbers: vec![0.0; 4],
+        lfe: vec![0],
+    });
+    all.push(Layout {
+        name: "refused with 2, all LFE".to_string(),
+        numbers: vec![1.0; 123],
+        lfe: (0..41).collect(),
+    });
     all
 }
 
 /// Broken, huge, tiny and subnormal numbers in each place.
 fn values() -> Vec<Layout> {
     let nans = [0x7fc00000, 0x7f800001, 0xffc00000].map(f32::from_bits);
-    let odd = [nans[0], nans[1], nans[2], f32::INFINITY, f32::NEG_INFINITY, f32::MAX, -f32::MAX, 1e-45, -1e-45, 1e-38, 1e-6, 1e30];
+    let odd = [
+        nans[0],
+        nans[1],
+        nans[2],
+        f32::INFINITY,
+        f32::NEG_INFINITY,
+        f32::MAX,
+        -f32::MAX,
+        1e-45,
+        -1e-45,
+        1e-38,
+        1e-6,
+        1e30,
+    ];
     let mut all = Vec::new();
     for v in odd {
         for place in 0..3 {
@@ -412,12 +715,23 @@ fn values() -> Vec<Layout> {
             all.push(layout(format!("{p:?} among three"), &[F, p, RIGHT]));
             let mut q = [0.0; 3];
             q[place] = v;
-            all.push(layout(format!("{q:?} among three"), &[at(40.0, 30.0), q, at(-40.0, 20.0)]));
+            all.push(layout(
+                format!("{q:?} among three"),
+                &[at(40.0, 30.0), q, at(-40.0, 20.0)],
+            ));
         }
         all.push(layout(format!("only {v:e}"), &[[v; 3]; 2]));
     }
     let scales = [1e-6, 1e-3, 1e3, 1e30, 3e38];
-    all.extend(scales.map(|s| layout(format!("octahedron times {s:e}"), &octahedron().iter().map(|p| p.map(|x| x * s)).collect::<Vec<_>>())));
+    all.extend(scales.map(|s| {
+        layout(
+            format!("octahedron times {s:e}"),
+            &octahedron()
+                .iter()
+                .map(|p| p.map(|x| x * s))
+                .collect::<Vec<_>>(),
+        )
+    }));
     all
 }
 

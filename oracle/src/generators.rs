@@ -11,7 +11,10 @@ fn single(values: Vec<u64>) -> Vec<Args> {
 }
 
 fn crossed(values: &[u64]) -> Vec<Args> {
-    values.iter().flat_map(|&a| values.iter().map(move |&b| vec![a, b])).collect()
+    values
+        .iter()
+        .flat_map(|&a| values.iter().map(move |&b| vec![a, b]))
+        .collect()
 }
 
 // ---- widths
@@ -35,7 +38,12 @@ fn narrow_ties(r: &mut Random) -> Vec<u64> {
     }
     // Subnormal results: n + 1/2 smallest values, n of every length, the least normal included.
     for digits in 0..=23 {
-        for n in [(1u64 << digits) - 1, 1 << digits, r.below(1 << digits), r.below(1 << digits)] {
+        for n in [
+            (1u64 << digits) - 1,
+            1 << digits,
+            r.below(1 << digits),
+            r.below(1 << digits),
+        ] {
             v.extend(tie64(n, -149));
         }
     }
@@ -84,7 +92,11 @@ fn whole_ties(r: &mut Random, digits: u32) -> Vec<u64> {
             // rounding twice.
             let tie = (m << shift) + half;
             let beside = [0, 1, half >> 1, 1 << shift.saturating_sub(30)];
-            v.extend(beside.iter().flat_map(|b| [tie.wrapping_add(*b), tie.wrapping_sub(*b)]));
+            v.extend(
+                beside
+                    .iter()
+                    .flat_map(|b| [tie.wrapping_add(*b), tie.wrapping_sub(*b)]),
+            );
         }
     }
     v
@@ -93,7 +105,12 @@ fn whole_ties(r: &mut Random, digits: u32) -> Vec<u64> {
 fn whole_chosen(r: &mut Random, digits: u32) -> Vec<Args> {
     let mut v: Vec<u64> = (0..=64).collect();
     for bit in 0..64 {
-        v.extend((0..=4).flat_map(|n| [(1u64 << bit).wrapping_add(n), (1u64 << bit).saturating_sub(n)]));
+        v.extend((0..=4).flat_map(|n| {
+            [
+                (1u64 << bit).wrapping_add(n),
+                (1u64 << bit).saturating_sub(n),
+            ]
+        }));
     }
     v.extend((0..=64).map(|n| u64::MAX - n));
     // Origin: document 01, proving ground.
@@ -139,10 +156,18 @@ fn root_chosen(f: Format, r: &mut Random) -> Vec<Args> {
     let mut v = f.edges(if f.fraction == 23 { 1 } else { 4 });
     // Exact squares of up to 12 or 26 digits, with neighbours, and the same times 2.
     for n in 1..=300u64 {
-        let digits = (f.fraction + 1) / 2;
-        let m = if n <= 150 { n } else { r.between(1 << (digits - 1), (1 << digits) - 1) as u64 };
+        let digits = f.fraction.div_ceil(2);
+        let m = if n <= 150 {
+            n
+        } else {
+            r.between(1 << (digits - 1), (1 << digits) - 1) as u64
+        };
         for square in [(m * m) as f64, 2.0 * (m * m) as f64] {
-            let bits = if f.fraction == 23 { f32_bits(square as f32) } else { f64_bits(square) };
+            let bits = if f.fraction == 23 {
+                f32_bits(square as f32)
+            } else {
+                f64_bits(square)
+            };
             v.extend([bits - 1, bits, bits + 1]);
         }
     }
@@ -182,7 +207,11 @@ fn pair_draw(f: Format, r: &mut Random) -> Args {
         3 => r.pick(&f.specials()),
         _ => f.any(r),
     };
-    if r.below(2) == 0 { vec![a, b] } else { vec![b, a] }
+    if r.below(2) == 0 {
+        vec![a, b]
+    } else {
+        vec![b, a]
+    }
 }
 
 fn one_chosen(f: Format) -> Vec<Args> {
@@ -221,7 +250,12 @@ fn powi4_chosen() -> Vec<Args> {
     let mut v = F32.edges(1);
     // The fourth root of the greatest float, of the least normal and of the least subnormal;
     // the square root of the same, where the square overflows or falls to 0.
-    for x in [f32::MAX as f64, f32::MIN_POSITIVE as f64, 2f64.powi(-149), 2f64.powi(-150)] {
+    for x in [
+        f32::MAX as f64,
+        f32::MIN_POSITIVE as f64,
+        2f64.powi(-149),
+        2f64.powi(-150),
+    ] {
         v.extend(F32.around(f32_bits(x.sqrt().sqrt() as f32), 60));
         v.extend(F32.around(f32_bits(x.sqrt() as f32), 60));
     }
@@ -243,11 +277,19 @@ fn powi4_draw(r: &mut Random) -> Args {
 
 /// A value of the format nearest x.
 fn nearest(f: Format, x: f64) -> u64 {
-    if f.fraction == 23 { f32_bits(x as f32) } else { f64_bits(x) }
+    if f.fraction == 23 {
+        f32_bits(x as f32)
+    } else {
+        f64_bits(x)
+    }
 }
 
 fn value(f: Format, bits: u64) -> f64 {
-    if f.fraction == 23 { f32::from_bits(bits as u32) as f64 } else { f64::from_bits(bits) }
+    if f.fraction == 23 {
+        f32::from_bits(bits as u32) as f64
+    } else {
+        f64::from_bits(bits)
+    }
 }
 
 /// The modulus that the source uses. Origin: vbap.rs line 464 (TAU) and line 231 (2 pi).
@@ -268,7 +310,11 @@ fn rem_chosen(f: Format) -> Vec<Args> {
     for m in [1.0, 3.0, 0.1, -1.0, -TWO_PI] {
         for k in 0..=10 {
             let multiple = nearest(f, (k as f64 * m).abs());
-            v.extend(f.around(multiple, 2).into_iter().map(|x| vec![x, nearest(f, m)]));
+            v.extend(
+                f.around(multiple, 2)
+                    .into_iter()
+                    .map(|x| vec![x, nearest(f, m)]),
+            );
         }
     }
     v
@@ -282,7 +328,10 @@ fn rem_draw(f: Format, r: &mut Random) -> Args {
         3 => {
             let m = f.any(r);
             let x = nearest(f, value(f, m) * r.between(-1000, 1000) as f64);
-            vec![x.wrapping_add(r.between(-2, 2) as u64) & (f.sign | (f.sign - 1)), m]
+            vec![
+                x.wrapping_add(r.between(-2, 2) as u64) & (f.sign | (f.sign - 1)),
+                m,
+            ]
         }
         4 => {
             let m = f.any(r) & (f.sign - 1);
@@ -301,8 +350,14 @@ fn sine_chosen(f: Format) -> Vec<Args> {
         v.extend(f.around(nearest(f, m as f64 * PI64 / 4.0), 6));
     }
     // Origin: document 01, k by its inequality: the last value below pi/4, where q + 1/2 rounds up to 1.
-    v.extend(F64.around(0x3fe9_21fb_5444_2d17, 4).iter().map(|x| nearest(f, f64::from_bits(*x))));
-    for big in [1e3, 1e6, 1e9, 1e15, 1e16, 1e22, 1e30, 1e38, 1e100, 1e200, 1e300] {
+    v.extend(
+        F64.around(0x3fe9_21fb_5444_2d17, 4)
+            .iter()
+            .map(|x| nearest(f, f64::from_bits(*x))),
+    );
+    for big in [
+        1e3, 1e6, 1e9, 1e15, 1e16, 1e22, 1e30, 1e38, 1e100, 1e200, 1e300,
+    ] {
         v.extend(f.around(nearest(f, big), 2));
     }
     single(v)
@@ -315,7 +370,8 @@ fn sine_draw(f: Format, r: &mut Random) -> Args {
         3 | 4 => {
             let bound = 1 << r.below(40);
             let m = r.between(-bound, bound);
-            nearest(f, m as f64 * PI64 / 4.0).wrapping_add(r.between(-2, 2) as u64) & (f.sign | (f.sign - 1))
+            nearest(f, m as f64 * PI64 / 4.0).wrapping_add(r.between(-2, 2) as u64)
+                & (f.sign | (f.sign - 1))
         }
         5 | 6 => nearest(f, r.within(-100.0, 100.0)),
         7 => nearest(f, r.within(-1.0, 1.0) * 2f64.powi(-(r.below(60) as i32))),
@@ -375,11 +431,16 @@ fn atan2_draw(r: &mut Random) -> Args {
         }
         3 => {
             let (y, x) = (F64.any(r), r.pick(&F64.specials()));
-            if r.below(2) == 0 { vec![y, x] } else { vec![x, y] }
+            if r.below(2) == 0 {
+                vec![y, x]
+            } else {
+                vec![x, y]
+            }
         }
         4 | 5 => {
             let e = r.between(0, 2046) as u64;
-            let near = |r: &mut Random| F64.with_exponent(r, e.saturating_sub(30), (e + 30).min(2046));
+            let near =
+                |r: &mut Random| F64.with_exponent(r, e.saturating_sub(30), (e + 30).min(2046));
             vec![near(r), near(r)]
         }
         _ => {
@@ -393,7 +454,10 @@ fn atan2_draw(r: &mut Random) -> Args {
 
 /// Both ends of 0..1, halves, and what the clamps and the maximum meet.
 fn mixed_values() -> Vec<u64> {
-    let mut v: Vec<u64> = [0.0, -0.0, 1.0, -1.0, 0.5, f32::INFINITY, f32::NEG_INFINITY].iter().map(|x| f32_bits(*x)).collect();
+    let mut v: Vec<u64> = [0.0, -0.0, 1.0, -1.0, 0.5, f32::INFINITY, f32::NEG_INFINITY]
+        .iter()
+        .map(|x| f32_bits(*x))
+        .collect();
     // The least subnormal, and a quiet NaN.
     v.extend([1, 0x7fc0_0000]);
     v
@@ -401,7 +465,10 @@ fn mixed_values() -> Vec<u64> {
 
 fn mixed_chosen(r: &mut Random) -> Vec<Args> {
     let few = crossed(&mixed_values());
-    let mut v: Vec<Args> = few.iter().flat_map(|a| few.iter().map(move |b| [&a[..], &b[..]].concat())).collect();
+    let mut v: Vec<Args> = few
+        .iter()
+        .flat_map(|a| few.iter().map(move |b| [&a[..], &b[..]].concat()))
+        .collect();
     let mut unit = || f32_bits(r.unit() as f32);
     // Origin: docs/RATIONALE.md, finding 7.
     v.push([0.25, 0.75, f32::NAN, 0.0].map(f32_bits).to_vec());
@@ -410,8 +477,16 @@ fn mixed_chosen(r: &mut Random) -> Vec<Args> {
         v.push([&[unit(), unit()], &pair[..]].concat());
     }
     // Either side of the clamps' ends, and of the middle.
-    let near: Vec<u64> = [0.5, 1.0].into_iter().flat_map(|x| F32.around(f32_bits(x), 3)).chain(F32.around(0, 2)).collect();
-    v.extend(crossed(&near).into_iter().map(|pair| [&[unit(), unit()], &pair[..]].concat()));
+    let near: Vec<u64> = [0.5, 1.0]
+        .into_iter()
+        .flat_map(|x| F32.around(f32_bits(x), 3))
+        .chain(F32.around(0, 2))
+        .collect();
+    v.extend(
+        crossed(&near)
+            .into_iter()
+            .map(|pair| [&[unit(), unit()], &pair[..]].concat()),
+    );
     v
 }
 

@@ -17,16 +17,28 @@ impl History {
     pub fn beginning(numbers: &[f32], lfe: &[usize], sources: usize) -> History {
         let panner = VbapPanner::new(&triples(numbers), lfe);
         let rows = vec![vec![0.0; panner.num_outputs()]; sources];
-        History { panner, lists: vec![Vec::new(); sources], rows }
+        History {
+            panner,
+            lists: vec![Vec::new(); sources],
+            rows,
+        }
     }
 
     /// The number that the table gives a call.
     pub fn refusal(&self, call: &Call) -> u8 {
         let standing = |source: &usize| self.lists.get(*source).map(Vec::len);
         match call {
-            Call::Render { length, samples, outputs } => {
-                render_refusal(*length, samples.len(), outputs.len(), self.lists.len(), self.panner.num_outputs())
-            }
+            Call::Render {
+                length,
+                samples,
+                outputs,
+            } => render_refusal(
+                *length,
+                samples.len(),
+                outputs.len(),
+                self.lists.len(),
+                self.panner.num_outputs(),
+            ),
             Call::Place { source, .. } => match standing(source) {
                 None => 5,
                 Some(DEPTH) => 6,
@@ -56,7 +68,9 @@ impl History {
             return refusal;
         }
         match call {
-            Call::Place { source, az, el } => self.lists[*source].push((finite_or_0(*az), finite_or_0(*el))),
+            Call::Place { source, az, el } => {
+                self.lists[*source].push((finite_or_0(*az), finite_or_0(*el)))
+            }
             Call::TakeBack { source } => drop(self.lists[*source].pop()),
             Call::Settle { source } => {
                 let last = self.lists[*source].last().copied();

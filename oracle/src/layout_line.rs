@@ -14,12 +14,19 @@ pub struct Layout {
 impl Layout {
     /// A layout of whole positions.
     pub fn new(name: impl Into<String>, positions: &[[f32; 3]], lfe: &[usize]) -> Layout {
-        Layout { name: name.into(), numbers: positions.concat(), lfe: lfe.to_vec() }
+        Layout {
+            name: name.into(),
+            numbers: positions.concat(),
+            lfe: lfe.to_vec(),
+        }
     }
 
     /// The arguments by their bits: two layouts are the same when these are.
     pub fn bits(&self) -> (Vec<u32>, Vec<usize>) {
-        (self.numbers.iter().map(|x| x.to_bits()).collect(), self.lfe.clone())
+        (
+            self.numbers.iter().map(|x| x.to_bits()).collect(),
+            self.lfe.clone(),
+        )
     }
 
     /// What `new` gives: `open` with a number of sources that it accepts.
@@ -29,7 +36,11 @@ impl Layout {
 
     /// The lines of a list: the name as a comment where there is one, then the case.
     pub fn lines(&self, given: &Opened) -> String {
-        let comment = if self.name.is_empty() { String::new() } else { format!("# {}\n", self.name) };
+        let comment = if self.name.is_empty() {
+            String::new()
+        } else {
+            format!("# {}\n", self.name)
+        };
         comment + &self.line(given)
     }
 
@@ -69,12 +80,19 @@ impl Words {
     }
 
     pub fn floats(&mut self, values: &[f32]) {
-        self.0.extend(values.iter().map(|x| format!("{:08x}", x.to_bits())));
+        self.0
+            .extend(values.iter().map(|x| format!("{:08x}", x.to_bits())));
     }
 
     /// Expected floats: `nan` for a NaN.
     pub fn expected(&mut self, values: &[f32]) {
-        let word = |x: &f32| if x.is_nan() { "nan".to_string() } else { format!("{:08x}", x.to_bits()) };
+        let word = |x: &f32| {
+            if x.is_nan() {
+                "nan".to_string()
+            } else {
+                format!("{:08x}", x.to_bits())
+            }
+        };
         self.0.extend(values.iter().map(word));
     }
 
@@ -94,7 +112,9 @@ impl Words {
         self.count(p.num_outputs);
         self.bytes(&[p.kind as u8, p.mono]);
         self.count(p.num_pairs);
-        p.pairs[..p.num_pairs].iter().for_each(|pair| self.pair(pair));
+        p.pairs[..p.num_pairs]
+            .iter()
+            .for_each(|pair| self.pair(pair));
         self.count(p.num_slots);
         self.bytes(&p.slots[..p.num_slots]);
         self.count(p.num_real);

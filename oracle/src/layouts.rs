@@ -25,12 +25,20 @@ impl Opened {
 }
 
 fn refused(number: u8, lists: Vec<Built>) -> Opened {
-    Opened { refusal: number, imaginary: 0, panner: Panner::empty(), lists }
+    Opened {
+        refusal: number,
+        imaginary: 0,
+        panner: Panner::empty(),
+        lists,
+    }
 }
 
 /// Three numbers a speaker, as the source takes them.
 pub fn triples(numbers: &[f32]) -> Vec<[f32; 3]> {
-    numbers.chunks_exact(3).map(|p| [p[0], p[1], p[2]]).collect()
+    numbers
+        .chunks_exact(3)
+        .map(|p| [p[0], p[1], p[2]])
+        .collect()
 }
 
 /// `open` without the session: refusals 1 to 4 in rising order, else the layout of the source.
@@ -51,7 +59,12 @@ pub fn opened(numbers: &[f32], lfe: &[usize], sources: usize) -> Opened {
         return refused(4, lists);
     }
     let panner = built.record();
-    Opened { refusal: 0, imaginary: panner.num_imag, panner, lists }
+    Opened {
+        refusal: 0,
+        imaginary: panner.num_imag,
+        panner,
+        lists,
+    }
 }
 
 /// The refusal of `open` alone.
@@ -70,12 +83,18 @@ pub fn at(azimuth: f64, elevation: f64) -> [f32; 3] {
 
 /// n speakers evenly around at an elevation, the first at an azimuth.
 pub fn ring(n: usize, first: f64, elevation: f64) -> Vec<[f32; 3]> {
-    (0..n).map(|i| at(first + 360.0 * i as f64 / n as f64, elevation)).collect()
+    (0..n)
+        .map(|i| at(first + 360.0 * i as f64 / n as f64, elevation))
+        .collect()
 }
 
 /// n times one position, behind other numbers.
 pub fn repeated(others: &[f32], position: [f32; 3], n: usize) -> Vec<f32> {
-    others.iter().copied().chain(std::iter::repeat_n(position, n).flatten()).collect()
+    others
+        .iter()
+        .copied()
+        .chain(std::iter::repeat_n(position, n).flatten())
+        .collect()
 }
 
 /// Well-spread speakers over the front half sphere, on a spiral.
@@ -99,7 +118,11 @@ pub struct Ordinary {
 }
 
 fn ordinary_layout(name: &'static str, parts: Vec<Vec<[f32; 3]>>, lfe: &[usize]) -> Ordinary {
-    Ordinary { name, positions: parts.concat(), lfe: lfe.to_vec() }
+    Ordinary {
+        name,
+        positions: parts.concat(),
+        lfe: lfe.to_vec(),
+    }
 }
 
 /// Speakers at azimuths and one elevation.
@@ -120,21 +143,56 @@ pub fn ordinary() -> Vec<Ordinary> {
         ordinary_layout("7.1", vec![seven()], &[3]),
         ordinary_layout("ring of 8", vec![ring(8, 0.0, 0.0)], &[]),
         ordinary_layout("ring of 24", vec![ring(24, 7.5, 2.0)], &[]),
-        ordinary_layout("5.1.4", vec![five(), fan(&[-45.0, 45.0, -135.0, 135.0], 35.0)], &[3]),
-        ordinary_layout("7.1.4", vec![seven(), fan(&[-45.0, 45.0, -135.0, 135.0], 45.0)], &[3]),
-        ordinary_layout("cube", vec![ring(4, 45.0, 35.26), ring(4, 45.0, -35.26)], &[]),
-        ordinary_layout("dome of 21", vec![ring(12, 0.0, 0.0), ring(8, 22.5, 40.0), ring(1, 0.0, 90.0)], &[]),
+        ordinary_layout(
+            "5.1.4",
+            vec![five(), fan(&[-45.0, 45.0, -135.0, 135.0], 35.0)],
+            &[3],
+        ),
+        ordinary_layout(
+            "7.1.4",
+            vec![seven(), fan(&[-45.0, 45.0, -135.0, 135.0], 45.0)],
+            &[3],
+        ),
+        ordinary_layout(
+            "cube",
+            vec![ring(4, 45.0, 35.26), ring(4, 45.0, -35.26)],
+            &[],
+        ),
+        ordinary_layout(
+            "dome of 21",
+            vec![ring(12, 0.0, 0.0), ring(8, 22.5, 40.0), ring(1, 0.0, 90.0)],
+            &[],
+        ),
         ordinary_layout(
             "dome of 37",
-            vec![ring(16, 0.0, 0.0), ring(12, 11.0, 25.0), ring(8, 5.0, 50.0), ring(1, 0.0, 90.0)],
+            vec![
+                ring(16, 0.0, 0.0),
+                ring(12, 11.0, 25.0),
+                ring(8, 5.0, 50.0),
+                ring(1, 0.0, 90.0),
+            ],
             &[],
         ),
         ordinary_layout(
             "sphere of 26",
-            vec![ring(1, 0.0, -90.0), ring(8, 10.0, -40.0), ring(8, 0.0, 5.0), ring(8, 20.0, 45.0), ring(1, 0.0, 90.0)],
+            vec![
+                ring(1, 0.0, -90.0),
+                ring(8, 10.0, -40.0),
+                ring(8, 0.0, 5.0),
+                ring(8, 20.0, 45.0),
+                ring(1, 0.0, 90.0),
+            ],
             &[],
         ),
-        ordinary_layout("front wall of 9", vec![fan(&[-30.0, 0.0, 30.0], -20.0), fan(&[-30.0, 0.0, 30.0], 0.0), fan(&[-30.0, 0.0, 30.0], 20.0)], &[]),
+        ordinary_layout(
+            "front wall of 9",
+            vec![
+                fan(&[-30.0, 0.0, 30.0], -20.0),
+                fan(&[-30.0, 0.0, 30.0], 0.0),
+                fan(&[-30.0, 0.0, 30.0], 20.0),
+            ],
+            &[],
+        ),
     ]
 }
 
@@ -151,7 +209,10 @@ fn random_position(r: &mut Random, manner: u64) -> [f32; 3] {
         1 => at(15.0 * r.between(-12, 12) as f64, 0.0),
         2 => at(r.within(-180.0, 180.0), 0.0),
         3 => at(r.within(-180.0, 180.0), r.within(-90.0, 90.0)),
-        4 => at(15.0 * r.between(-12, 12) as f64, 15.0 * r.between(-6, 6) as f64),
+        4 => at(
+            15.0 * r.between(-12, 12) as f64,
+            15.0 * r.between(-6, 6) as f64,
+        ),
         5 => at(r.within(-180.0, 180.0), r.within(0.0, 90.0)),
         6 => at(r.within(-90.0, 90.0), r.within(-80.0, 80.0)),
         _ => [0, 1, 2].map(|_| f32::from_bits(r.bits() as u32)),
@@ -160,7 +221,11 @@ fn random_position(r: &mut Random, manner: u64) -> [f32; 3] {
 
 /// Positions and LFE slots of a random layout of up to `most` speakers.
 pub fn random_layout(r: &mut Random, most: usize) -> (Vec<f32>, Vec<usize>) {
-    let n = if r.below(4) == 0 { most } else { r.below(most as u64 + 1) as usize };
+    let n = if r.below(4) == 0 {
+        most
+    } else {
+        r.below(most as u64 + 1) as usize
+    };
     let manner = r.below(8);
     let mixed = r.below(4) == 0;
     let mut numbers = Vec::new();
@@ -168,6 +233,8 @@ pub fn random_layout(r: &mut Random, most: usize) -> (Vec<f32>, Vec<usize>) {
         let m = if mixed { r.below(8) } else { manner };
         numbers.extend(random_position(r, m));
     }
-    let lfe = (0..r.below(3)).map(|_| r.below(most as u64 + 2) as usize).collect();
+    let lfe = (0..r.below(3))
+        .map(|_| r.below(most as u64 + 2) as usize)
+        .collect();
     (numbers, lfe)
 }

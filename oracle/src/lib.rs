@@ -20,6 +20,7 @@ pub mod random;
 pub mod random_layouts;
 pub mod rationale;
 pub mod record;
+pub mod rehearsal;
 pub mod row_directions;
 pub mod row_lists;
 pub mod rows;

@@ -22,12 +22,18 @@ struct Greatest {
 
 impl Greatest {
     fn new() -> Greatest {
-        Greatest { distance: 0.0, at: (0.0, 0.0) }
+        Greatest {
+            distance: 0.0,
+            at: (0.0, 0.0),
+        }
     }
 
     fn see(&mut self, a: f64, b: f64, at: (f64, f64)) {
         if (a - b).abs() > self.distance {
-            *self = Greatest { distance: (a - b).abs(), at };
+            *self = Greatest {
+                distance: (a - b).abs(),
+                at,
+            };
         }
     }
 }
@@ -52,7 +58,10 @@ fn rows(positions: &[[f32; 3]], lfe: &[usize], r: &mut Random) -> Greatest {
     let mut greatest = Greatest::new();
     let (mut a, mut b) = (vec![0.0; positions.len()], vec![0.0; positions.len()]);
     for _ in 0..DIRECTIONS {
-        let (az, el) = (r.within(-PI64, PI64) as f32, r.within(-PI64 / 2.0, PI64 / 2.0) as f32);
+        let (az, el) = (
+            r.within(-PI64, PI64) as f32,
+            r.within(-PI64 / 2.0, PI64 / 2.0) as f32,
+        );
         ours.gains(az, el, &mut a);
         theirs.gains(az, el, &mut b);
         for (x, y) in a.iter().zip(&b) {
@@ -63,7 +72,10 @@ fn rows(positions: &[[f32; 3]], lfe: &[usize], r: &mut Random) -> Greatest {
 }
 
 fn told(name: &str, g: &Greatest, bound: f64) -> bool {
-    println!("{name}: greatest distance {:e} at {:e}, {:e} (bound {bound:e})", g.distance, g.at.0, g.at.1);
+    println!(
+        "{name}: greatest distance {:e} at {:e}, {:e} (bound {bound:e})",
+        g.distance, g.at.0, g.at.1
+    );
     g.distance <= bound
 }
 
@@ -76,7 +88,11 @@ pub fn report() -> bool {
     }
     let mut r = Random::new(SEED);
     for layout in ordinary() {
-        good &= told(layout.name, &rows(&layout.positions, &layout.lfe, &mut r), ROW_BOUND);
+        good &= told(
+            layout.name,
+            &rows(&layout.positions, &layout.lfe, &mut r),
+            ROW_BOUND,
+        );
     }
     good
 }

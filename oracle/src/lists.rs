@@ -5,8 +5,8 @@ use crate::chosen_layouts;
 use crate::functions::function;
 use crate::generators::{chosen, draw, left_out};
 use crate::layout_line::{Layout, Tally};
-use crate::random::Random;
 use crate::ramps;
+use crate::random::Random;
 use crate::random_layouts;
 use crate::row_lists;
 use std::collections::HashSet;
@@ -19,78 +19,119 @@ pub enum Cases {
     Lines(fn(&mut Random) -> (String, String)),
 }
 
-/// A stored list, its place below the repository's root, its seed and its cases.
+/// A list, its seed and its cases.
 pub struct List {
     pub name: &'static str,
-    pub path: &'static str,
     pub seed: u64,
     pub cases: Cases,
 }
 
+/// What a program is run on: the program's name, and its lists, stored one behind the other.
+pub struct Input {
+    pub program: &'static str,
+    pub lists: &'static [List],
+}
+
 /// Cases of each function: so many stand in a list.
 pub const CASES: usize = 20_000;
-/// Greatest length of a stored list in bytes.
-pub const MAX_BYTES: usize = 3_000_000;
+
+const fn functions(name: &'static str, seed: u64, of: &'static [&'static str]) -> List {
+    List {
+        name,
+        seed,
+        cases: Cases::Functions(of),
+    }
+}
+
+const fn layouts(name: &'static str, seed: u64, make: fn(&mut Random) -> Vec<Layout>) -> List {
+    List {
+        name,
+        seed,
+        cases: Cases::Layouts(make),
+    }
+}
+
+const fn lines(name: &'static str, seed: u64, make: fn(&mut Random) -> (String, String)) -> List {
+    List {
+        name,
+        seed,
+        cases: Cases::Lines(make),
+    }
+}
 
 /// Every stored list. The seeds are arbitrary.
-pub const LISTS: [List; 16] = [
-    List {
-        name: "widths",
-        path: "crates/replay_widths/stdin",
-        seed: 0x101,
-        cases: Cases::Functions(&["widen", "narrow", "f32_from_u64", "f64_from_u64"]),
+pub static INPUTS: [Input; 6] = [
+    Input {
+        program: "replay_numbers",
+        lists: &[
+            functions(
+                "widths",
+                0x101,
+                &["widen", "narrow", "f32_from_u64", "f64_from_u64"],
+            ),
+            functions("roots", 0x102, &["sqrt32", "sqrt64"]),
+            functions(
+                "order32",
+                0x103,
+                &["max32", "min32", "clamp", "abs32", "powi4"],
+            ),
+            functions("order64", 0x104, &["max64", "abs64"]),
+            functions(
+                "signs",
+                0x105,
+                &["is_finite32", "sign_bit32", "is_finite64", "sign_bit64"],
+            ),
+            functions("rem", 0x106, &["rem_euclid32", "rem_euclid64"]),
+        ],
     },
-    List { name: "roots", path: "crates/replay_roots/stdin", seed: 0x102, cases: Cases::Functions(&["sqrt32", "sqrt64"]) },
-    List {
-        name: "order32",
-        path: "crates/replay_order32/stdin",
-        seed: 0x103,
-        cases: Cases::Functions(&["max32", "min32", "clamp", "abs32", "powi4"]),
+    Input {
+        program: "replay_trig",
+        lists: &[
+            functions("sine", 0x107, &["sin64", "cos64", "sin32", "cos32"]),
+            functions("sine_pairs", 0x108, &["sin_cos64", "sin_cos32"]),
+            functions("atan", 0x109, &["atan64", "atan2"]),
+        ],
     },
-    List { name: "order64", path: "crates/replay_order64/stdin", seed: 0x104, cases: Cases::Functions(&["max64", "abs64"]) },
-    // Signs and kinds of values have a list of their own: with them order32 and order64 would be too long.
-    List {
-        name: "signs",
-        path: "crates/replay_signs/stdin",
-        seed: 0x105,
-        cases: Cases::Functions(&["is_finite32", "sign_bit32", "is_finite64", "sign_bit64"]),
+    Input {
+        program: "replay_layouts",
+        lists: &[
+            layouts("layouts", 0x10a, chosen_layouts::chosen),
+            layouts("layouts_random", 0x10b, random_layouts::drawn),
+        ],
     },
-    List { name: "rem", path: "crates/replay_rem/stdin", seed: 0x106, cases: Cases::Functions(&["rem_euclid32", "rem_euclid64"]) },
-    List {
-        name: "sine",
-        path: "crates/replay_sine/stdin",
-        seed: 0x107,
-        cases: Cases::Functions(&["sin64", "cos64", "sin32", "cos32"]),
+    Input {
+        program: "replay_ramps",
+        lists: &[lines("ramps", 0x10c, ramps::ramps)],
     },
-    List {
-        name: "sine_pairs",
-        path: "crates/replay_sine_pairs/stdin",
-        seed: 0x108,
-        cases: Cases::Functions(&["sin_cos64", "sin_cos32"]),
+    Input {
+        program: "replay_rows",
+        lists: &[
+            lines("rows", 0x10d, row_lists::first),
+            lines("rows_2", 0x10e, row_lists::second),
+        ],
     },
-    List { name: "atan", path: "crates/replay_atan/stdin", seed: 0x109, cases: Cases::Functions(&["atan64", "atan2"]) },
-    List {
-        name: "layouts",
-        path: "crates/replay_layouts/stdin",
-        seed: 0x10a,
-        cases: Cases::Layouts(chosen_layouts::chosen),
+    Input {
+        program: "replay_calls",
+        lists: &[
+            lines("calls", 0x10f, call_lists::opened),
+            lines("calls_2", 0x110, call_lists::made),
+        ],
     },
-    List {
-        name: "layouts_random",
-        path: "crates/replay_layouts_random/stdin",
-        seed: 0x10b,
-        cases: Cases::Layouts(random_layouts::drawn),
-    },
-    List { name: "ramps", path: "crates/replay_ramps/stdin", seed: 0x10c, cases: Cases::Lines(ramps::ramps) },
-    List { name: "rows", path: "crates/replay_rows/stdin", seed: 0x10d, cases: Cases::Lines(row_lists::first) },
-    List { name: "rows_2", path: "crates/replay_rows_2/stdin", seed: 0x10e, cases: Cases::Lines(row_lists::second) },
-    List { name: "calls", path: "crates/replay_calls/stdin", seed: 0x10f, cases: Cases::Lines(call_lists::opened) },
-    List { name: "calls_2", path: "crates/replay_calls_2/stdin", seed: 0x110, cases: Cases::Lines(call_lists::made) },
 ];
 
+/// The lists of all inputs.
+pub fn lists() -> impl Iterator<Item = &'static List> {
+    INPUTS.iter().flat_map(|input| input.lists)
+}
+
 /// A list by its name.
-pub fn list(name: &str) -> &'static List {
-    LISTS.iter().find(|l| l.name == name).expect("a list's name")
+pub fn list(name: &str) -> Option<&'static List> {
+    lists().find(|l| l.name == name)
+}
+
+/// The layouts of a list by its name.
+pub fn layouts_of(name: &str) -> Vec<Layout> {
+    list(name).expect("a list's name").layouts()
 }
 
 /// Distinct arguments of one function: the chosen ones, then draws up to `count`.
@@ -105,7 +146,11 @@ pub fn arguments(name: &str, count: usize, r: &mut Random) -> Vec<Vec<u64>> {
     for args in chosen(name, r) {
         keep(args, &mut kept);
     }
-    assert!(kept.len() < count, "{name}: {} chosen cases leave no room for draws", kept.len());
+    assert!(
+        kept.len() < count,
+        "{name}: {} chosen cases leave no room for draws",
+        kept.len()
+    );
     while kept.len() < count {
         keep(draw(name, r), &mut kept);
     }
@@ -127,7 +172,10 @@ fn function_cases(functions: &[&str], r: &mut Random) -> (String, String) {
 /// The layouts of a list, each once.
 pub fn distinct(layouts: Vec<Layout>) -> Vec<Layout> {
     let mut seen = HashSet::new();
-    layouts.into_iter().filter(|l| seen.insert(l.bits())).collect()
+    layouts
+        .into_iter()
+        .filter(|l| seen.insert(l.bits()))
+        .collect()
 }
 
 /// As `function_cases`, for layouts.
@@ -158,15 +206,36 @@ impl List {
             Cases::Layouts(_) => layout_cases(self.layouts()),
             Cases::Lines(make) => make(&mut Random::new(self.seed)),
         };
-        let text = format!("# oracle cases {}: seed {:x}; {what}\n{cases}", self.name, self.seed);
-        assert!(text.len() < MAX_BYTES, "{}: {} bytes", self.name, text.len());
-        text
+        format!(
+            "# oracle cases {}: seed {:x}; {what}\n{cases}",
+            self.name, self.seed
+        )
+    }
+}
+
+impl Input {
+    /// Its place below the repository's root.
+    pub fn path(&self) -> String {
+        format!("crates/{}/stdin", self.program)
+    }
+
+    /// The whole text of the file.
+    pub fn text(&self) -> String {
+        self.lists.iter().map(List::text).collect()
     }
 }
 
 /// Draws without end of memory: `count` cases in turn over the functions that mpfr.c judges.
 pub fn stream(count: u64, seed: u64, mut emit: impl FnMut(&str)) {
-    let names = ["narrow", "sqrt32", "sqrt64", "f32_from_u64", "f64_from_u64", "rem_euclid32", "rem_euclid64"];
+    let names = [
+        "narrow",
+        "sqrt32",
+        "sqrt64",
+        "f32_from_u64",
+        "f64_from_u64",
+        "rem_euclid32",
+        "rem_euclid64",
+    ];
     let mut r = Random::new(seed);
     for n in 0..count {
         let name = names[(n % names.len() as u64) as usize];

@@ -142,6 +142,9 @@ fn of_record(r: &mut Random, name: String, record: &Panner) -> Made {
     }
 }
 
+/// A count of a record: its name, its limit, and how to set it.
+type Count = (&'static str, usize, fn(&mut Panner, usize));
+
 /// Every count of a session and of its record out of range by one in turn, and at its limit.
 pub fn chosen(r: &mut Random) -> Vec<Made> {
     let mut all = Vec::new();
@@ -167,25 +170,19 @@ pub fn chosen(r: &mut Random) -> Vec<Made> {
             });
         }
     }
+    let counts: [Count; 6] = [
+        ("outputs", 40, |p, n| p.num_outputs = n),
+        ("pairs", 40, |p, n| p.num_pairs = n),
+        ("planar slots", 40, |p, n| p.num_slots = n),
+        ("real points", 40, |p, n| p.num_real = n),
+        ("triplets", 80, |p, n| p.num_tris = n),
+        ("imaginary points", 14, |p, n| p.num_imag = n),
+    ];
     for over in [0, 1] {
-        add(format!("{} outputs", 40 + over), &|s| {
-            s.panner.num_outputs = 40 + over
-        });
-        add(format!("{} pairs", 40 + over), &|s| {
-            s.panner.num_pairs = 40 + over
-        });
-        add(format!("{} planar slots", 40 + over), &|s| {
-            s.panner.num_slots = 40 + over
-        });
-        add(format!("{} real points", 40 + over), &|s| {
-            s.panner.num_real = 40 + over
-        });
-        add(format!("{} triplets", 80 + over), &|s| {
-            s.panner.num_tris = 80 + over
-        });
-        add(format!("{} imaginary points", 14 + over), &|s| {
-            s.panner.num_imag = 14 + over
-        });
+        for (name, limit, set) in counts {
+            let n = limit + over;
+            add(format!("{n} {name}"), &|s| set(&mut s.panner, n));
+        }
         for k in [0, 13] {
             add(format!("{} neighbours of point {k}", 40 + over), &|s| {
                 s.panner.num_nbrs[k] = 40 + over as u8

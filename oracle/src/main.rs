@@ -1,13 +1,17 @@
 //! Writes, prints and compares the case lists. See README.md.
 
-use oracle::lists::{stream, List, LISTS};
-use oracle::{libm, rationale, selftest};
+use oracle::lists::{list, stream, INPUTS};
+use oracle::{libm, rationale, rehearsal, selftest};
 use std::io::{BufWriter, Write};
 use std::path::Path;
 use std::process::ExitCode;
 use std::{env, fs, io};
 
-const USAGE: &str = "usage: oracle cases NAME | write ROOT | fresh ROOT | stream COUNT SEED | libm | selftest | rationale";
+const USAGE: &str =
+    "usage: oracle cases NAME | write ROOT | fresh ROOT | stream COUNT SEED | libm | selftest | rationale | rehearsal";
+
+/// What the rehearsal writes, below the repository's root.
+const REHEARSAL: &str = "crates/rehearsal/stdout";
 
 fn print(text: &str) {
     // A reader that goes away early is no error.
@@ -15,17 +19,22 @@ fn print(text: &str) {
 }
 
 fn cases(name: &str) -> Result<(), String> {
-    let list = LISTS.iter().find(|l| l.name == name).ok_or(format!("no list of the name {name}"))?;
+    let list = list(name).ok_or(format!("no list of the name {name}"))?;
     print(&list.text());
     Ok(())
 }
 
 fn write(root: &str) -> Result<(), String> {
-    for list in &LISTS {
-        let (path, text) = (Path::new(root).join(list.path), list.text());
+    for input in &INPUTS {
+        let (path, text) = (Path::new(root).join(input.path()), input.text());
         fs::create_dir_all(path.parent().expect("a folder")).map_err(|e| e.to_string())?;
-        fs::write(&path, &text).map_err(|e| format!("{}: {e}", list.path))?;
-        println!("{}: {} lines, {} bytes", list.path, text.lines().count(), text.len());
+        fs::write(&path, &text).map_err(|e| format!("{}: {e}", input.path()))?;
+        println!(
+            "{}: {} lines, {} bytes",
+            input.path(),
+            text.lines().count(),
+            text.len()
+        );
     }
     Ok(())
 }
@@ -35,28 +44,37 @@ fn first_difference(a: &str, b: &str) -> Option<usize> {
     if a == b {
         return None;
     }
-    let same = a.split_inclusive('\n').zip(b.split_inclusive('\n')).take_while(|(x, y)| x == y).count();
+    let same = a
+        .split_inclusive('\n')
+        .zip(b.split_inclusive('\n'))
+        .take_while(|(x, y)| x == y)
+        .count();
     Some(same + 1)
 }
 
-fn compare(root: &str, list: &List) -> Result<(), String> {
-    let stored = fs::read_to_string(Path::new(root).join(list.path)).map_err(|e| format!("{}: {e}", list.path))?;
-    match first_difference(&stored, &list.text()) {
-        None => Ok(()),
-        Some(line) => Err(format!("{}: line {line} is not what the oracle gives today", list.path)),
+/// Stops where a stored text is not the oracle's.
+fn compare(root: &str, path: &str, text: &str) -> Result<(), String> {
+    let stored =
+        fs::read_to_string(Path::new(root).join(path)).map_err(|e| format!("{path}: {e}"))?;
+    if let Some(line) = first_difference(&stored, text) {
+        return Err(format!(
+            "{path}: line {line} is not what the oracle gives today"
+        ));
     }
-}
-
-fn fresh(root: &str) -> Result<(), String> {
-    for list in &LISTS {
-        compare(root, list)?;
-        println!("{}: fresh", list.path);
-    }
+    println!("{path}: fresh");
     Ok(())
 }
 
+fn fresh(root: &str) -> Result<(), String> {
+    for input in &INPUTS {
+        compare(root, &input.path(), &input.text())?;
+    }
+    compare(root, REHEARSAL, &rehearsal::text())
+}
+
 fn number(word: &str) -> Result<u64, String> {
-    word.parse().map_err(|_| format!("{word} is no whole number"))
+    word.parse()
+        .map_err(|_| format!("{word} is no whole number"))
 }
 
 fn random_cases(count: &str, seed: &str) -> Result<(), String> {
@@ -76,6 +94,10 @@ fn run(words: &[&str]) -> Result<(), String> {
         ["libm"] => Err("a distance is beyond its bound".to_string()),
         ["selftest"] => selftest::report(),
         ["rationale"] => rationale::report(),
+        ["rehearsal"] => {
+            print(&rehearsal::text());
+            Ok(())
+        }
         ["stream", count, seed] => random_cases(count, seed),
         _ => Err(USAGE.to_string()),
     }

@@ -62,7 +62,11 @@ fn single(pattern: u64) -> f32 {
 
 fn specials() -> Vec<f32> {
     let one = 0x3f80_0000;
-    F32.specials().into_iter().chain(F32.both_signs(vec![one])).map(single).collect()
+    F32.specials()
+        .into_iter()
+        .chain(F32.both_signs(vec![one]))
+        .map(single)
+        .collect()
 }
 
 fn value(r: &mut Random, manner: Manner) -> f32 {
@@ -88,7 +92,14 @@ fn gains(r: &mut Random) -> [f32; 2] {
         2 => [to, -to],
         3 => [from, r.pick(&specials())],
         4 => [r.pick(&specials()), to],
-        5 => r.pick(&[[0.0, -0.0], [-0.0, 0.0], [0.0, 0.0], [-0.0, -0.0], [0.0, 1.0], [1.0, 0.0]]),
+        5 => r.pick(&[
+            [0.0, -0.0],
+            [-0.0, 0.0],
+            [0.0, 0.0],
+            [-0.0, -0.0],
+            [0.0, 1.0],
+            [1.0, 0.0],
+        ]),
         6 => [value(r, Any), value(r, Any)],
         7 => [value(r, Tiny), value(r, Tiny)],
         8 => [to, single(to.to_bits() as u64 + r.below(5))],
@@ -103,13 +114,21 @@ fn lengths(r: &mut Random) -> Vec<Ramp> {
         for m in [n, n + 1, n / 2, 0] {
             let (from, to) = (r.unit() as f32, r.unit() as f32);
             for gains in [[from, to], [to, to]] {
-                all.push(Ramp { dst: samples(r, Ordinary, n), src: samples(r, Ordinary, m), gains });
+                all.push(Ramp {
+                    dst: samples(r, Ordinary, n),
+                    src: samples(r, Ordinary, m),
+                    gains,
+                });
             }
         }
         // Origin: docs/RATIONALE.md, finding 8: the last gain need not be the target.
         let half = f32::from_bits(0x3f35_04f3);
         for gains in [[0.0, 1.0], [half, 0.0]] {
-            all.push(Ramp { dst: vec![0.0; n + 1], src: vec![1.0; n + 1], gains });
+            all.push(Ramp {
+                dst: vec![0.0; n + 1],
+                src: vec![1.0; n + 1],
+                gains,
+            });
         }
     }
     all
@@ -121,13 +140,29 @@ fn all_specials(r: &mut Random) -> Vec<Ramp> {
     let mut ramps = Vec::new();
     for from in &all {
         for to in &all {
-            ramps.push(Ramp { dst: samples(r, Ordinary, 2), src: samples(r, Ordinary, 3), gains: [*from, *to] });
+            ramps.push(Ramp {
+                dst: samples(r, Ordinary, 2),
+                src: samples(r, Ordinary, 3),
+                gains: [*from, *to],
+            });
         }
     }
     let quiet = f32::from_bits(0x7fc0_0000);
     for into in &all {
-        for gains in [[1.0, 1.0], [0.0, -0.0], [-0.0, 0.0], [0.5, -2.0], [quiet, 1.0], [f32::INFINITY; 2], [-1.0, f32::MAX]] {
-            ramps.push(Ramp { dst: vec![*into; all.len()], src: all.clone(), gains });
+        for gains in [
+            [1.0, 1.0],
+            [0.0, -0.0],
+            [-0.0, 0.0],
+            [0.5, -2.0],
+            [quiet, 1.0],
+            [f32::INFINITY; 2],
+            [-1.0, f32::MAX],
+        ] {
+            ramps.push(Ramp {
+                dst: vec![*into; all.len()],
+                src: all.clone(),
+                gains,
+            });
         }
     }
     ramps
@@ -140,7 +175,11 @@ fn zeros(r: &mut Random) -> Vec<Ramp> {
     for n in 1..=20 {
         for gains in [[0.0, -0.0], [-0.0, 0.0], [0.0, 0.0], [-0.0, -0.0]] {
             let dst = (0..n).map(|_| r.pick(&[0.0, -0.0])).collect();
-            all.push(Ramp { dst, src: samples(r, Ordinary, n), gains });
+            all.push(Ramp {
+                dst,
+                src: samples(r, Ordinary, n),
+                gains,
+            });
         }
     }
     all
@@ -148,14 +187,31 @@ fn zeros(r: &mut Random) -> Vec<Ramp> {
 
 /// The longest blocks, whole and with a few samples too few on either side.
 fn longest(r: &mut Random) -> Vec<Ramp> {
-    let lengths = [(LONGEST, LONGEST), (LONGEST, LONGEST - 1), (LONGEST - 5, LONGEST), (LONGEST, LONGEST)];
+    let lengths = [
+        (LONGEST, LONGEST),
+        (LONGEST, LONGEST - 1),
+        (LONGEST - 5, LONGEST),
+        (LONGEST, LONGEST),
+    ];
     let mut all: Vec<Ramp> = lengths
         .iter()
-        .map(|&(n, m)| Ramp { dst: samples(r, Ordinary, n), src: samples(r, Ordinary, m), gains: [r.unit() as f32, r.unit() as f32] })
+        .map(|&(n, m)| Ramp {
+            dst: samples(r, Ordinary, n),
+            src: samples(r, Ordinary, m),
+            gains: [r.unit() as f32, r.unit() as f32],
+        })
         .collect();
     all[3].gains[0] = all[3].gains[1];
-    all.push(Ramp { dst: vec![0.0; LONGEST], src: vec![1.0; LONGEST], gains: [0.0, 1.0] });
-    all.push(Ramp { dst: samples(r, Bits, LONGEST), src: samples(r, Bits, LONGEST), gains: [0.25, -3.0] });
+    all.push(Ramp {
+        dst: vec![0.0; LONGEST],
+        src: vec![1.0; LONGEST],
+        gains: [0.0, 1.0],
+    });
+    all.push(Ramp {
+        dst: samples(r, Bits, LONGEST),
+        src: samples(r, Bits, LONGEST),
+        gains: [0.25, -3.0],
+    });
     all
 }
 
@@ -163,8 +219,16 @@ fn longest(r: &mut Random) -> Vec<Ramp> {
 /// or taken in another order leaves something.
 fn cancelling(r: &mut Random) -> Ramp {
     let n = r.below(20) as usize;
-    let mut ramp = Ramp { dst: vec![0.0; n], src: samples(r, Ordinary, n), gains: [r.unit() as f32, r.unit() as f32] };
-    ramp.dst = ramp.added().iter().map(|x| single((-x).to_bits() as u64 + r.below(4) / 3)).collect();
+    let mut ramp = Ramp {
+        dst: vec![0.0; n],
+        src: samples(r, Ordinary, n),
+        gains: [r.unit() as f32, r.unit() as f32],
+    };
+    ramp.dst = ramp
+        .added()
+        .iter()
+        .map(|x| single((-x).to_bits() as u64 + r.below(4) / 3))
+        .collect();
     ramp
 }
 
@@ -174,14 +238,29 @@ fn drawn(r: &mut Random) -> Ramp {
     }
     let most = r.pick(&[5, 9, 17, 41]);
     let n = r.below(most) as usize;
-    let m = if r.below(3) == 0 { r.below(most) as usize } else { n };
-    let (into, from) = if r.below(2) == 0 { (Ordinary, Ordinary) } else { (r.pick(&MANNERS), r.pick(&MANNERS)) };
-    Ramp { dst: samples(r, into, n), src: samples(r, from, m), gains: gains(r) }
+    let m = if r.below(3) == 0 {
+        r.below(most) as usize
+    } else {
+        n
+    };
+    let (into, from) = if r.below(2) == 0 {
+        (Ordinary, Ordinary)
+    } else {
+        (r.pick(&MANNERS), r.pick(&MANNERS))
+    };
+    Ramp {
+        dst: samples(r, into, n),
+        src: samples(r, from, m),
+        gains: gains(r),
+    }
 }
 
 /// What stands behind the seed in the list's first line, and its cases.
 pub fn ramps(r: &mut Random) -> (String, String) {
-    let mut all: Vec<Ramp> = [lengths(r), all_specials(r), zeros(r), longest(r)].into_iter().flatten().collect();
+    let mut all: Vec<Ramp> = [lengths(r), all_specials(r), zeros(r), longest(r)]
+        .into_iter()
+        .flatten()
+        .collect();
     all.extend((0..DRAWN).map(|_| drawn(r)));
     let mut text: String = all.iter().map(Ramp::line).collect();
     let name = "normalized_lerp_gain";

@@ -43,8 +43,10 @@ enum Manner {
 
 use Manner::*;
 
-const MANNERS: [Manner; 13] =
-    [Coarse, Whole, PlanarGrid, Planar, NearPlanar, Sphere, Grid, Dome, Front, Candidates, Cone, Bits, Sizes];
+const MANNERS: [Manner; 13] = [
+    Coarse, Whole, PlanarGrid, Planar, NearPlanar, Sphere, Grid, Dome, Front, Candidates, Cone,
+    Bits, Sizes,
+];
 
 fn coarse(r: &mut Random) -> f32 {
     r.pick(&[-1.0f32, -1.0, -0.5, -0.0, 0.0, 0.0, 0.5, 1.0, 1.0])
@@ -155,7 +157,9 @@ fn lfe(r: &mut Random, speakers: usize) -> Vec<usize> {
         0..=6 => vec![],
         7 => (0..speakers).filter(|_| r.below(6) != 0).collect(),
         8 => vec![r.bits() as usize, 1 << 63, speakers],
-        _ => (0..1 + r.below(4)).map(|_| r.below(speakers as u64 + 2) as usize).collect(),
+        _ => (0..1 + r.below(4))
+            .map(|_| r.below(speakers as u64 + 2) as usize)
+            .collect(),
     }
 }
 
@@ -171,7 +175,12 @@ fn next_position(r: &mut Random, earlier: &[Position], manner: Manner, repeats: 
 
 /// One random layout; one in fifteen has numbers left over or too many.
 pub fn draw(r: &mut Random) -> Layout {
-    let (n, manner, mixed, repeats) = (speakers(r), r.pick(&MANNERS), r.below(5) == 0, r.below(3) == 0);
+    let (n, manner, mixed, repeats) = (
+        speakers(r),
+        r.pick(&MANNERS),
+        r.below(5) == 0,
+        r.below(3) == 0,
+    );
     let mut positions: Vec<Position> = Vec::new();
     for _ in 0..n {
         let manner = if mixed { r.pick(&MANNERS) } else { manner };
@@ -181,9 +190,15 @@ pub fn draw(r: &mut Random) -> Layout {
     let mut numbers = positions.concat();
     if r.below(15) == 0 {
         let count = r.below(131) as usize;
-        numbers = (0..count).map(|i| *numbers.get(i).unwrap_or(&F[i % 3])).collect();
+        numbers = (0..count)
+            .map(|i| *numbers.get(i).unwrap_or(&F[i % 3]))
+            .collect();
     }
-    Layout { name: String::new(), numbers, lfe: lfe(r, n) }
+    Layout {
+        name: String::new(),
+        numbers,
+        lfe: lfe(r, n),
+    }
 }
 
 /// The list's layouts, each once.

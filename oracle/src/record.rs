@@ -47,9 +47,19 @@ pub struct Panner {
 
 impl Pair {
     fn words(&self) -> Vec<u64> {
-        let mut w = vec![self.start.to_bits() as u64, self.gap.to_bits() as u64, self.a as u64, self.b as u64];
+        let mut w = vec![
+            self.start.to_bits() as u64,
+            self.gap.to_bits() as u64,
+            self.a as u64,
+            self.b as u64,
+        ];
         w.push(self.law.is_some() as u64);
-        w.extend(self.law.unwrap_or([0.0; 4]).iter().map(|x| x.to_bits() as u64));
+        w.extend(
+            self.law
+                .unwrap_or([0.0; 4])
+                .iter()
+                .map(|x| x.to_bits() as u64),
+        );
         w
     }
 }
@@ -62,7 +72,13 @@ impl Panner {
             kind: Kind::Silent,
             mono: 0,
             num_pairs: 0,
-            pairs: [Pair { start: 0.0, gap: 0.0, a: 0, b: 0, law: None }; MAX_OUTPUTS],
+            pairs: [Pair {
+                start: 0.0,
+                gap: 0.0,
+                a: 0,
+                b: 0,
+                law: None,
+            }; MAX_OUTPUTS],
             num_slots: 0,
             slots: [0; MAX_OUTPUTS],
             num_real: 0,
@@ -81,7 +97,12 @@ impl Panner {
     pub fn words(&self) -> Vec<u64> {
         let bytes = |b: &[u8]| b.iter().map(|&n| n as u64).collect::<Vec<_>>();
         let floats = |f: &[f32]| f.iter().map(|x| x.to_bits() as u64).collect::<Vec<_>>();
-        let mut w = vec![self.num_outputs as u64, self.kind as u64, self.mono as u64, self.num_pairs as u64];
+        let mut w = vec![
+            self.num_outputs as u64,
+            self.kind as u64,
+            self.mono as u64,
+            self.num_pairs as u64,
+        ];
         w.extend(self.pairs.iter().flat_map(Pair::words));
         w.push(self.num_slots as u64);
         w.extend(bytes(&self.slots));
@@ -115,24 +136,40 @@ impl Panner {
             Kind::Mono => vec![self.mono],
             Kind::Planar => {
                 let ends = self.pairs[..self.num_pairs].iter().flat_map(|p| [p.a, p.b]);
-                ends.chain(self.slots[..self.num_slots].iter().copied()).collect()
+                ends.chain(self.slots[..self.num_slots].iter().copied())
+                    .collect()
             }
             Kind::Hull => {
-                let nbrs = (0..self.num_imag).flat_map(|k| &self.imag_nbrs[k][..self.num_nbrs[k] as usize]);
-                self.pt_out[..self.num_real].iter().chain(nbrs).copied().collect()
+                let nbrs = (0..self.num_imag)
+                    .flat_map(|k| &self.imag_nbrs[k][..self.num_nbrs[k] as usize]);
+                self.pt_out[..self.num_real]
+                    .iter()
+                    .chain(nbrs)
+                    .copied()
+                    .collect()
             }
         }
     }
 
     /// The point numbers that the kind and its counts reach.
     fn used_points(&self) -> &[u8] {
-        if self.kind == Kind::Hull { self.idx[..self.num_tris].as_flattened() } else { &[] }
+        if self.kind == Kind::Hull {
+            self.idx[..self.num_tris].as_flattened()
+        } else {
+            &[]
+        }
     }
 
     /// Refusal 11.
     pub fn malformed(&self) -> bool {
         self.counts_over()
-            || self.used_slots().iter().any(|&s| s as usize >= self.num_outputs)
-            || self.used_points().iter().any(|&p| p as usize >= self.num_real + self.num_imag)
+            || self
+                .used_slots()
+                .iter()
+                .any(|&s| s as usize >= self.num_outputs)
+            || self
+                .used_points()
+                .iter()
+                .any(|&p| p as usize >= self.num_real + self.num_imag)
     }
 }

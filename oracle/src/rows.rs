@@ -28,11 +28,17 @@ pub struct Subject {
 }
 
 fn before(length: usize) -> Vec<f32> {
-    (0..length as u32).map(|i| f32::from_bits(BEFORE + i)).collect()
+    (0..length as u32)
+        .map(|i| f32::from_bits(BEFORE + i))
+        .collect()
 }
 
 pub fn comment(name: &str) -> String {
-    if name.is_empty() { String::new() } else { format!("# {name}\n") }
+    if name.is_empty() {
+        String::new()
+    } else {
+        format!("# {name}\n")
+    }
 }
 
 /// Equal bits, or two NaNs.
@@ -46,7 +52,11 @@ impl Subject {
         let given = layout.opened();
         let line = comment(&layout.name) + &layout.arguments("layout").line();
         let panner = VbapPanner::new(&triples(&layout.numbers), &layout.lfe);
-        (given.refusal == 0).then_some(Subject { line, record: given.panner, panner: Some(panner) })
+        (given.refusal == 0).then_some(Subject {
+            line,
+            record: given.panner,
+            panner: Some(panner),
+        })
     }
 
     /// A record made by hand.
@@ -54,7 +64,11 @@ impl Subject {
         let mut words = Words::new("record");
         words.panner(&record);
         let panner = (!record.malformed()).then(|| VbapPanner::of_record(&record));
-        Subject { line: comment(name) + &words.line(), record, panner }
+        Subject {
+            line: comment(name) + &words.line(),
+            record,
+            panner,
+        }
     }
 
     pub fn malformed(&self) -> bool {
@@ -75,8 +89,17 @@ impl Subject {
         panner.gains(call.az, call.el, &mut out);
         panner.gains(call.az, call.el, &mut zeros);
         let n = self.record.num_outputs.min(call.length);
-        assert!(out.iter().zip(&zeros).take(n).all(|(a, b)| same(*a, *b)), "{call:?}: depends on the buffer");
-        assert!(out.iter().zip(before(call.length)).skip(n).all(|(a, b)| same(*a, b)), "{call:?}: touches a place");
+        assert!(
+            out.iter().zip(&zeros).take(n).all(|(a, b)| same(*a, *b)),
+            "{call:?}: depends on the buffer"
+        );
+        assert!(
+            out.iter()
+                .zip(before(call.length))
+                .skip(n)
+                .all(|(a, b)| same(*a, b)),
+            "{call:?}: touches a place"
+        );
         out.truncate(n);
         out
     }
@@ -99,7 +122,10 @@ impl Subject {
 
     fn num_outputs_line(&self) -> String {
         let mut words = Words::new("num_outputs");
-        let (number, count) = self.panner.as_ref().map_or((11, 0), |p| (0, p.num_outputs()));
+        let (number, count) = self
+            .panner
+            .as_ref()
+            .map_or((11, 0), |p| (0, p.num_outputs()));
         words.count(number);
         words.count(count);
         words.line()
@@ -141,7 +167,13 @@ impl Rows {
 
     /// For the first line of a list.
     pub fn what(&self) -> String {
-        let Rows { layouts, records, malformed, rows, .. } = self;
+        let Rows {
+            layouts,
+            records,
+            malformed,
+            rows,
+            ..
+        } = self;
         format!("layout {layouts}, record {records} ({malformed} malformed), num_outputs {}, gains {rows}", layouts + records)
     }
 }

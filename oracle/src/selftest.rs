@@ -3,7 +3,7 @@
 
 use crate::history::History;
 use crate::layouts::{front, open_refusal, opened, random_layout, repeated, triples, MAX_SOURCES};
-use crate::lists::list;
+use crate::lists::INPUTS;
 use crate::random::Random;
 use crate::record::{Kind, Pair, Panner};
 use crate::rows::same;
@@ -31,7 +31,11 @@ fn angle(r: &mut Random) -> f32 {
 
 /// Zero to `most` samples off the wanted number now and then, so that 9 and 10 occur.
 fn buffer(r: &mut Random, wanted: usize) -> Vec<f32> {
-    let n = if r.below(12) == 0 { r.below(wanted as u64 + 2) as usize } else { wanted };
+    let n = if r.below(12) == 0 {
+        r.below(wanted as u64 + 2) as usize
+    } else {
+        wanted
+    };
     (0..n).map(|_| r.within(-1.0, 1.0) as f32).collect()
 }
 
@@ -53,19 +57,38 @@ fn random_call(r: &mut Random, sources: usize, outputs: usize, eager: bool) -> C
         3 | 4 => {
             let length = block_length(r);
             let wanted = length.min(MAX_BLOCK);
-            Call::Render { length, samples: buffer(r, sources * wanted), outputs: buffer(r, outputs * wanted) }
+            Call::Render {
+                length,
+                samples: buffer(r, sources * wanted),
+                outputs: buffer(r, outputs * wanted),
+            }
         }
-        _ => Call::Place { source, az: angle(r), el: angle(r) },
+        _ => Call::Place {
+            source,
+            az: angle(r),
+            el: angle(r),
+        },
     }
 }
 
 /// The mix that the rows before and after a render say.
-fn mixed(before: &[Vec<f32>], after: &[Vec<f32>], length: usize, samples: &[f32], outputs: &[f32]) -> Vec<f32> {
+fn mixed(
+    before: &[Vec<f32>],
+    after: &[Vec<f32>],
+    length: usize,
+    samples: &[f32],
+    outputs: &[f32],
+) -> Vec<f32> {
     let mut out = outputs.to_vec();
     for (source, (g0, g1)) in before.iter().zip(after).enumerate() {
         for slot in 0..g0.len() {
             let src = &samples[source * length..(source + 1) * length];
-            ramp_add(&mut out[slot * length..(slot + 1) * length], src, g0[slot], g1[slot]);
+            ramp_add(
+                &mut out[slot * length..(slot + 1) * length],
+                src,
+                g0[slot],
+                g1[slot],
+            );
         }
     }
     out
@@ -77,9 +100,19 @@ pub fn agree(session: &mut Session, history: &mut History, call: &mut Call) -> R
     let number = history.call(&asked);
     let given = session.call(call);
     if given != number || !history.stands_for(session) {
-        return Err(format!("{asked:?}: record gives {given}, history {number}, or they part"));
+        return Err(format!(
+            "{asked:?}: record gives {given}, history {number}, or they part"
+        ));
     }
-    if let (Call::Render { length, samples, outputs }, Call::Render { outputs: found, .. }) = (&asked, &*call) {
+    if let (
+        Call::Render {
+            length,
+            samples,
+            outputs,
+        },
+        Call::Render { outputs: found, .. },
+    ) = (&asked, &*call)
+    {
         let told = match number {
             0 => mixed(&before, &history.rows, *length, samples, outputs),
             _ => outputs.clone(),
@@ -98,7 +131,9 @@ fn call_list(r: &mut Random, seen: &mut [u64; 12]) -> Result<usize, String> {
     let sources = 1 + r.below(MAX_SOURCES as u64) as usize;
     let (number, _, session) = open(&numbers, &lfe, sources);
     seen[number as usize] += 1;
-    let Some(mut session) = session else { return Ok(0) };
+    let Some(mut session) = session else {
+        return Ok(0);
+    };
     if session.malformed() {
         return Err("a malformed session from open".to_string());
     }
@@ -142,7 +177,11 @@ fn there_and_back(r: &mut Random) -> Result<(), String> {
 }
 
 fn expect(good: bool, what: &str) -> Result<(), String> {
-    if good { Ok(()) } else { Err(what.to_string()) }
+    if good {
+        Ok(())
+    } else {
+        Err(what.to_string())
+    }
 }
 
 /// One edit that makes a well-formed record malformed.
@@ -170,7 +209,13 @@ fn malformed_records() -> Result<(), String> {
     broken(&base, |p| p.mono = 2, "mono slot")?;
     base.kind = Kind::Planar;
     (base.num_pairs, base.num_slots) = (2, 2);
-    let pair = |a, b| Pair { start: 0.0, gap: 1.0, a, b, law: None };
+    let pair = |a, b| Pair {
+        start: 0.0,
+        gap: 1.0,
+        a,
+        b,
+        law: None,
+    };
     broken(&base, |p| p.pairs[1] = pair(2, 0), "slot a")?;
     broken(&base, |p| p.pairs[1] = pair(0, 2), "slot b")?;
     broken(&base, |p| p.slots[1] = 2, "planar slot")?;
@@ -183,7 +228,11 @@ fn malformed_records() -> Result<(), String> {
     broken(&base, |p| p.pt_out[1] = 2, "real point's slot")?;
     broken(&base, |p| p.imag_nbrs[0][1] = 2, "neighbour's slot")?;
     broken(&base, |p| p.idx[1][2] = 3, "point number")?;
-    broken(&base, |p| p.num_imag = 0, "a point number beyond fewer points")
+    broken(
+        &base,
+        |p| p.num_imag = 0,
+        "a point number beyond fewer points",
+    )
 }
 
 // ---- document 01's cases
@@ -192,10 +241,19 @@ fn malformed_records() -> Result<(), String> {
 fn refusal_four() -> Result<(), String> {
     let corners = [1.0, -1.0, 1.0, -1.0, 1.0, 1.0, -1.0, 1.0, -1.0];
     let many = opened(&repeated(&corners, [-1.0, 0.0, 0.0], 27), &[], 1);
-    expect(many.refusal == 4 && many.lengths() == [83, 59, 63], "27 copies: 83, 59, 63, refused")?;
+    expect(
+        many.refusal == 4 && many.lengths() == [83, 59, 63],
+        "27 copies: 83, 59, 63, refused",
+    )?;
     let fewer = opened(&repeated(&corners, [-1.0, 0.0, 0.0], 26), &[], 1);
-    expect(fewer.refusal == 0 && fewer.lengths() == [80, 57, 61], "26 copies: 80, 57, 61, accepted")?;
-    expect(open_refusal(&front(40).concat(), &[], 1) == 4, "forty well-spread speakers in front")
+    expect(
+        fewer.refusal == 0 && fewer.lengths() == [80, 57, 61],
+        "26 copies: 80, 57, 61, accepted",
+    )?;
+    expect(
+        open_refusal(&front(40).concat(), &[], 1) == 4,
+        "forty well-spread speakers in front",
+    )
 }
 
 /// Document 01, "Proving ground" and the order of refusals 1 to 3.
@@ -207,43 +265,91 @@ fn proving_ground() -> Result<(), String> {
         out
     };
     expect(row(&[], &[], 3) == [0.5; 3], "no positions: untouched")?;
-    expect(row(&f, &[], 1) == [1.0] && row(&f, &[0], 1) == [0.0], "F alone, and as LFE")?;
-    expect(opened(&[0.0, 0.0, 1e-6], &[], 1).panner.kind == Kind::Silent, "1e-6 is dropped")?;
-    expect(opened(&[0.0, 0.0, 1e-5], &[], 1).panner.kind == Kind::Mono, "1e-5 is active")?;
+    expect(
+        row(&f, &[], 1) == [1.0] && row(&f, &[0], 1) == [0.0],
+        "F alone, and as LFE",
+    )?;
+    expect(
+        opened(&[0.0, 0.0, 1e-6], &[], 1).panner.kind == Kind::Silent,
+        "1e-6 is dropped",
+    )?;
+    expect(
+        opened(&[0.0, 0.0, 1e-5], &[], 1).panner.kind == Kind::Mono,
+        "1e-5 is active",
+    )?;
     let two = opened(&repeated(&[], f, 2), &[], 1).panner;
     let pair = two.pairs[0];
     let crossfade = pair.law.is_none() && pair.gap == std::f32::consts::TAU;
-    expect(two.num_pairs == 1 && (pair.a, pair.b) == (1, 0) && crossfade, "F, F: one pair")?;
-    expect(row(&repeated(&[], f, 2), &[], 2) == [0.0, 1.0], "F, F: row 0, 1")?;
-    expect(row(&repeated(&[], f, 2), &[], 1) == [0.0], "F, F into one: 0")?;
+    expect(
+        two.num_pairs == 1 && (pair.a, pair.b) == (1, 0) && crossfade,
+        "F, F: one pair",
+    )?;
+    expect(
+        row(&repeated(&[], f, 2), &[], 2) == [0.0, 1.0],
+        "F, F: row 0, 1",
+    )?;
+    expect(
+        row(&repeated(&[], f, 2), &[], 1) == [0.0],
+        "F, F into one: 0",
+    )?;
     let three = opened(&repeated(&[], f, 3), &[], 1).panner;
-    expect(three.kind == Kind::Planar && three.num_pairs == 0, "F, F, F: planar, no pair")?;
+    expect(
+        three.kind == Kind::Planar && three.num_pairs == 0,
+        "F, F, F: planar, no pair",
+    )?;
     expect(2f32.sqrt().to_bits() == 0x3fb5_04f3, "root of 2")?;
     let mut ramp = [0.0, 0.0];
     ramp_add(&mut ramp, &[1.0, 1.0], 0.0, 1.0);
     expect(ramp == [0.5, 1.0], "ramp 0 to 1")?;
-    expect(normalized_lerp_gain(0.25, 0.75, 0.0, 0.0) == 0.25, "mixed gain")?;
-    expect(open_refusal(&repeated(&[], f, 40), &[], 1) == 0, "40 times F")?;
-    expect(open_refusal(&repeated(&[], f, 41), &[], 1) == 2, "41 times F")?;
+    expect(
+        normalized_lerp_gain(0.25, 0.75, 0.0, 0.0) == 0.25,
+        "mixed gain",
+    )?;
+    expect(
+        open_refusal(&repeated(&[], f, 40), &[], 1) == 0,
+        "40 times F",
+    )?;
+    expect(
+        open_refusal(&repeated(&[], f, 41), &[], 1) == 2,
+        "41 times F",
+    )?;
     expect(open_refusal(&[0.0; 124], &[], 0) == 1, "1 before 2 and 3")?;
     expect(open_refusal(&[0.0; 123], &[], 0) == 2, "2 before 3")?;
-    expect(open_refusal(&f, &[], 0) == 3 && open_refusal(&f, &[], 9) == 3, "sources 0 and 9")
+    expect(
+        open_refusal(&f, &[], 0) == 3 && open_refusal(&f, &[], 9) == 3,
+        "sources 0 and 9",
+    )
 }
 
 /// Document 01, the session's cases.
 fn session_cases() -> Result<(), String> {
-    let mut s = open(&[0.0, 0.0, -1.0], &[], 1).2.ok_or("F alone is refused")?;
+    let mut s = open(&[0.0, 0.0, -1.0], &[], 1)
+        .2
+        .ok_or("F alone is refused")?;
     let fresh = s.words();
     expect(s.take_back(0) == 7, "fresh, take back: 7")?;
-    expect(s.place(0, 1.0, 1.0) == 0 && s.take_back(0) == 0 && s.words() == fresh, "place, take back: fresh")?;
-    expect((0..DEPTH).all(|_| s.place(0, 0.0, 0.0) == 0) && s.place(0, 0.0, 0.0) == 6, "sixteen, then 6")?;
+    expect(
+        s.place(0, 1.0, 1.0) == 0 && s.take_back(0) == 0 && s.words() == fresh,
+        "place, take back: fresh",
+    )?;
+    expect(
+        (0..DEPTH).all(|_| s.place(0, 0.0, 0.0) == 0) && s.place(0, 0.0, 0.0) == 6,
+        "sixteen, then 6",
+    )?;
     let mut render = |n: usize| s.render(n, &vec![0.0; n], &mut vec![0.0; n]);
-    expect(render(MAX_BLOCK) == 0 && render(MAX_BLOCK + 1) == 8 && render(0) == 8, "1,024 passes, 1,025 and 0: 8")
+    expect(
+        render(MAX_BLOCK) == 0 && render(MAX_BLOCK + 1) == 8 && render(0) == 8,
+        "1,024 passes, 1,025 and 0: 8",
+    )
 }
 
 /// The stored lists of calls: how many, none longer than 200 calls, and every number among them.
 fn stored_calls() -> Result<(), String> {
-    let text = list("calls").text() + &list("calls_2").text();
+    let input = INPUTS
+        .iter()
+        .find(|i| i.program == "replay_calls")
+        .ok_or("no lists of calls")?;
+    let text = input.text();
     let (mut lists, mut calls, mut seen) = (0, 0, [0u64; 12]);
     for line in text.lines().filter(|l| !l.starts_with('#')) {
         let words: Vec<&str> = line.split(' ').collect();
@@ -256,11 +362,18 @@ fn stored_calls() -> Result<(), String> {
             Ok(n) => seen[n] += 1,
             Err(_) => lists += u64::from(words[0] == "end"),
         }
-        calls = if words[0] == "end" { 0 } else { calls + u64::from(!number.is_empty()) };
+        calls = if words[0] == "end" {
+            0
+        } else {
+            calls + u64::from(!number.is_empty())
+        };
         expect(calls <= 200, "a list of more than 200 calls")?;
     }
     println!("{lists} lists of calls; numbers returned, 0 to 11: {seen:?}");
-    expect(lists >= 3000 && seen.iter().all(|n| *n > 0), "3,000 lists and every number")
+    expect(
+        lists >= 3000 && seen.iter().all(|n| *n > 0),
+        "3,000 lists and every number",
+    )
 }
 
 fn run() -> Result<(), String> {

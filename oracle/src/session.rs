@@ -23,14 +23,30 @@ pub struct Session {
 /// The four calls of a list.
 #[derive(Clone, Debug)]
 pub enum Call {
-    Place { source: usize, az: f32, el: f32 },
-    TakeBack { source: usize },
-    Settle { source: usize },
-    Render { length: usize, samples: Vec<f32>, outputs: Vec<f32> },
+    Place {
+        source: usize,
+        az: f32,
+        el: f32,
+    },
+    TakeBack {
+        source: usize,
+    },
+    Settle {
+        source: usize,
+    },
+    Render {
+        length: usize,
+        samples: Vec<f32>,
+        outputs: Vec<f32>,
+    },
 }
 
 pub fn finite_or_0(x: f32) -> f32 {
-    if x.is_finite() { x } else { 0.0 }
+    if x.is_finite() {
+        x
+    } else {
+        0.0
+    }
 }
 
 /// Refusal, imaginary count and the fresh session, none beside a refusal.
@@ -57,7 +73,12 @@ impl Session {
         let mut w = self.panner.words();
         w.push(self.sources as u64);
         w.extend(self.counts.iter().map(|&n| n as u64));
-        w.extend(self.standing.iter().chain(&self.starts).map(|x| x.to_bits() as u64));
+        w.extend(
+            self.standing
+                .iter()
+                .chain(&self.starts)
+                .map(|x| x.to_bits() as u64),
+        );
         w
     }
 
@@ -114,7 +135,11 @@ impl Session {
 
     pub fn settle(&mut self, source: usize) -> u8 {
         let refusal = self.refusal_of(source);
-        let n = if refusal == 0 { self.counts[source] as usize } else { 0 };
+        let n = if refusal == 0 {
+            self.counts[source] as usize
+        } else {
+            0
+        };
         if n == 0 {
             return refusal;
         }
@@ -150,7 +175,12 @@ impl Session {
             let start = &mut self.starts[source * MAX_OUTPUTS..][..n];
             for slot in 0..n {
                 let dst = &mut outputs[slot * length..][..length];
-                ramp_add(dst, &samples[source * length..][..length], start[slot], target[slot]);
+                ramp_add(
+                    dst,
+                    &samples[source * length..][..length],
+                    start[slot],
+                    target[slot],
+                );
             }
             start.copy_from_slice(&target);
         }
@@ -163,13 +193,23 @@ impl Session {
             Call::Place { source, az, el } => self.place(*source, *az, *el),
             Call::TakeBack { source } => self.take_back(*source),
             Call::Settle { source } => self.settle(*source),
-            Call::Render { length, samples, outputs } => self.render(*length, samples, outputs),
+            Call::Render {
+                length,
+                samples,
+                outputs,
+            } => self.render(*length, samples, outputs),
         }
     }
 }
 
 /// Refusals 8, 9 and 10, from the lengths alone.
-pub fn render_refusal(length: usize, samples: usize, mixed: usize, sources: usize, outputs: usize) -> u8 {
+pub fn render_refusal(
+    length: usize,
+    samples: usize,
+    mixed: usize,
+    sources: usize,
+    outputs: usize,
+) -> u8 {
     if length == 0 || length > MAX_BLOCK {
         8
     } else if samples != sources * length {

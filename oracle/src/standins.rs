@@ -35,8 +35,16 @@ const COSINE: [f64; 9] = [
 ];
 
 /// (-1)^i / (2i+1), i = 0..7, each quotient rounded once. Origin: document 01, arctangent.
-const ARCTANGENT: [f64; 8] =
-    [1.0, -1.0 / 3.0, 1.0 / 5.0, -1.0 / 7.0, 1.0 / 9.0, -1.0 / 11.0, 1.0 / 13.0, -1.0 / 15.0];
+const ARCTANGENT: [f64; 8] = [
+    1.0,
+    -1.0 / 3.0,
+    1.0 / 5.0,
+    -1.0 / 7.0,
+    1.0 / 9.0,
+    -1.0 / 11.0,
+    1.0 / 13.0,
+    -1.0 / 15.0,
+];
 
 /// sum <- coefficient + z * sum, from the highest coefficient on.
 fn sum(z: f64, coefficients: &[f64]) -> f64 {
@@ -53,7 +61,9 @@ fn nearest_whole(q: f64) -> Option<i32> {
 /// Sine and cosine of v.
 pub fn sin_cos64(v: f64) -> (f64, f64) {
     let r = v % TWO_PI;
-    let Some(k) = nearest_whole(r / HALF_PI) else { return (f64::NAN, f64::NAN) };
+    let Some(k) = nearest_whole(r / HALF_PI) else {
+        return (f64::NAN, f64::NAN);
+    };
     let y = r - f64::from(k) * HALF_PI;
     let z = y * y;
     let (s, c) = (y * sum(z, &SINE), sum(z, &COSINE));
@@ -101,44 +111,48 @@ pub fn sign_bit32(x: f32) -> bool {
 pub fn atan2(y: f64, x: f64) -> f64 {
     let (ay, ax) = (y.abs(), x.abs());
     let quotient = |a: f64, b: f64| if a == 0.0 && b == 0.0 { 0.0 } else { a / b };
-    let first = if ay <= ax { atan64(quotient(ay, ax)) } else { HALF_PI - atan64(quotient(ax, ay)) };
+    let first = if ay <= ax {
+        atan64(quotient(ay, ax))
+    } else {
+        HALF_PI - atan64(quotient(ax, ay))
+    };
     let half = if sign_bit64(x) { PI64 - first } else { first };
-    if sign_bit64(y) { -half } else { half }
-}
-
-/// The other value for a NaN; of two zeros +0.
-pub fn max64(a: f64, b: f64) -> f64 {
-    if a.is_nan() {
-        b
-    } else if b.is_nan() {
-        a
-    } else if a == 0.0 && b == 0.0 {
-        0.0
-    } else if a < b {
-        b
+    if sign_bit64(y) {
+        -half
     } else {
-        a
+        half
     }
 }
 
-/// The other value for a NaN; of two zeros +0.
-pub fn max32(a: f32, b: f32) -> f32 {
-    if a.is_nan() {
-        b
-    } else if b.is_nan() {
-        a
-    } else if a == 0.0 && b == 0.0 {
-        0.0
-    } else if a < b {
-        b
-    } else {
-        a
-    }
+/// A maximum: the other value for a NaN; of two zeros +0.
+macro_rules! maximum {
+    ($name:ident, $float:ty) => {
+        pub fn $name(a: $float, b: $float) -> $float {
+            if a.is_nan() {
+                b
+            } else if b.is_nan() {
+                a
+            } else if a == 0.0 && b == 0.0 {
+                0.0
+            } else if a < b {
+                b
+            } else {
+                a
+            }
+        }
+    };
 }
+
+maximum!(max64, f64);
+maximum!(max32, f32);
 
 /// The other value for a NaN; of two zeros the first (it is only ever compared).
 pub fn min32(a: f32, b: f32) -> f32 {
-    if a.is_nan() || b < a { b } else { a }
+    if a.is_nan() || b < a {
+        b
+    } else {
+        a
+    }
 }
 
 /// Clamp to 0..1; keeps a NaN and -0.
@@ -161,13 +175,21 @@ pub fn powi4(x: f32) -> f32 {
 /// The remainder, plus the modulus where negative; -0 is not negative.
 pub fn rem_euclid32(x: f32, m: f32) -> f32 {
     let r = x % m;
-    if r < 0.0 { r + m } else { r }
+    if r < 0.0 {
+        r + m
+    } else {
+        r
+    }
 }
 
 /// The remainder, plus the modulus where negative; -0 is not negative.
 pub fn rem_euclid64(x: f64, m: f64) -> f64 {
     let r = x % m;
-    if r < 0.0 { r + m } else { r }
+    if r < 0.0 {
+        r + m
+    } else {
+        r
+    }
 }
 
 /// The names that build.rs puts in the place of the source's library calls.

@@ -71,7 +71,10 @@ const fn start() -> State {
         values[n] = TOLERANCES[n].value;
         n += 1;
     }
-    State { values, outcomes: [[0; 2]; TOLERANCES.len()] }
+    State {
+        values,
+        outcomes: [[0; 2]; TOLERANCES.len()],
+    }
 }
 
 thread_local! {

@@ -12,8 +12,16 @@ pub struct Format {
     pub sign: u64,
 }
 
-pub const F32: Format = Format { fraction: 23, top: 255, sign: 1 << 31 };
-pub const F64: Format = Format { fraction: 52, top: 2047, sign: 1 << 63 };
+pub const F32: Format = Format {
+    fraction: 23,
+    top: 255,
+    sign: 1 << 31,
+};
+pub const F64: Format = Format {
+    fraction: 52,
+    top: 2047,
+    sign: 1 << 63,
+};
 
 impl Format {
     pub fn infinity(self) -> u64 {
@@ -23,19 +31,44 @@ impl Format {
     /// Quiet and signalling NaNs, least and greatest payloads, both signs.
     pub fn nans(self) -> Vec<u64> {
         let quiet = 1u64 << (self.fraction - 1);
-        let payloads = [1, 2, quiet >> 1, quiet - 1, quiet, quiet + 1, (quiet << 1) - 1];
-        payloads.iter().flat_map(|p| [self.infinity() + p, self.sign + self.infinity() + p]).collect()
+        let payloads = [
+            1,
+            2,
+            quiet >> 1,
+            quiet - 1,
+            quiet,
+            quiet + 1,
+            (quiet << 1) - 1,
+        ];
+        payloads
+            .iter()
+            .flat_map(|p| [self.infinity() + p, self.sign + self.infinity() + p])
+            .collect()
     }
 
     pub fn both_signs(self, magnitudes: Vec<u64>) -> Vec<u64> {
-        magnitudes.into_iter().flat_map(|m| [m, self.sign | m]).collect()
+        magnitudes
+            .into_iter()
+            .flat_map(|m| [m, self.sign | m])
+            .collect()
     }
 
     /// Zeros, infinities, NaNs, the overflow limit and the least normal and subnormal, by sign.
     pub fn specials(self) -> Vec<u64> {
         let least_normal = 1u64 << self.fraction;
         let inf = self.infinity();
-        let magnitudes = vec![0, 1, 2, 3, least_normal - 1, least_normal, least_normal + 1, inf - 2, inf - 1, inf];
+        let magnitudes = vec![
+            0,
+            1,
+            2,
+            3,
+            least_normal - 1,
+            least_normal,
+            least_normal + 1,
+            inf - 2,
+            inf - 1,
+            inf,
+        ];
         let mut v = self.both_signs(magnitudes);
         v.extend(self.nans());
         v
@@ -45,11 +78,20 @@ impl Format {
     /// every other exponent.
     pub fn edges(self, step: u64) -> Vec<u64> {
         let subnormal = (0..self.fraction).map(|b| 1u64 << b);
-        let normal = (1..self.top).step_by(step as usize).map(|e| e << self.fraction);
-        let magnitudes = subnormal.chain(normal).flat_map(|p| [p - 1, p, p + 1]).collect();
+        let normal = (1..self.top)
+            .step_by(step as usize)
+            .map(|e| e << self.fraction);
+        let magnitudes = subnormal
+            .chain(normal)
+            .flat_map(|p| [p - 1, p, p + 1])
+            .collect();
         let mut v = self.specials();
         v.extend(self.both_signs(magnitudes));
-        v.extend((1..self.top).filter(|e| (e - 1) % step != 0).map(|e| self.scattered(e)));
+        v.extend(
+            (1..self.top)
+                .filter(|e| (e - 1) % step != 0)
+                .map(|e| self.scattered(e)),
+        );
         v
     }
 
@@ -80,7 +122,9 @@ impl Format {
             _ => r.bits(),
         };
         let exponent = r.between(low as i64, high as i64) as u64;
-        (if r.below(2) == 0 { 0 } else { self.sign }) | (exponent << self.fraction) | (fraction & mask)
+        (if r.below(2) == 0 { 0 } else { self.sign })
+            | (exponent << self.fraction)
+            | (fraction & mask)
     }
 
     /// Any bits at all.

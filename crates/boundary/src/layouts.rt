@@ -3,14 +3,12 @@ ghost use mathlib.Core.Path.{_≡_};
 ghost use Rattle.layout.specs.Layout.{newOf};
 ghost use Rattle.panner.specs.Malformed.{numOutputsOf};
 ghost use Rattle.gains.specs.Gains.{gainsNumber, gainsBuffer};
-ghost use Rattle.boundary.specs.Records.{headOf, pairNumbers, pairBytes, recordFrom};
-ghost use Rattle.boundary.specs.Rows.{rowsOf};
-use crate::least;
-use crate::record::bytes_of;
-use crate::record::head_of;
-use crate::record::numbers_of;
-use crate::record::record_from;
-use panner::VbapPanner;
+ghost use Rattle.carried.specs.Records.{HandedOut, recordFrom};
+ghost use Rattle.carried.specs.Rows.{rowsOf};
+use carried::record::bytes_of;
+use carried::record::head_of;
+use carried::record::numbers_of;
+use carried::record::record_from;
 
 // `layout::new`: its number, and the rest of its answer in the lent arrays.
 #[no_mangle]
@@ -31,16 +29,7 @@ pub extern "C" fn rt_new(
 ) -> u32
     ensures number { λ r. ⌜ r ≡ newOf (now (positions .entry)) (now (lfe .entry)) .number ⌝ }
     ensures imaginary { λ _. ⌜ now (imaginary .exit) ≡ newOf (now (positions .entry)) (now (lfe .entry)) .imaginary ⌝ }
-    ensures head { λ _. ⌜ now (head .exit) ≡ headOf (newOf (now (positions .entry)) (now (lfe .entry)) .panner) ⌝ }
-    ensures numbers { λ _. ⌜ now («pair_numbers» .exit) ≡ pairNumbers (newOf (now (positions .entry)) (now (lfe .entry)) .panner .«num_pairs») (newOf (now (positions .entry)) (now (lfe .entry)) .panner .pairs) ⌝ }
-    ensures bytes { λ _. ⌜ now («pair_bytes» .exit) ≡ pairBytes (newOf (now (positions .entry)) (now (lfe .entry)) .panner .«num_pairs») (newOf (now (positions .entry)) (now (lfe .entry)) .panner .pairs) ⌝ }
-    ensures slots { λ _. ⌜ now (slots .exit) ≡ newOf (now (positions .entry)) (now (lfe .entry)) .panner .slots ⌝ }
-    ensures pt_out { λ _. ⌜ now («pt_out» .exit) ≡ newOf (now (positions .entry)) (now (lfe .entry)) .panner .«pt_out» ⌝ }
-    ensures pt_dir { λ _. ⌜ now («pt_dir» .exit) ≡ newOf (now (positions .entry)) (now (lfe .entry)) .panner .«pt_dir» ⌝ }
-    ensures idx { λ _. ⌜ now (idx .exit) ≡ newOf (now (positions .entry)) (now (lfe .entry)) .panner .idx ⌝ }
-    ensures inv { λ _. ⌜ now (inv .exit) ≡ newOf (now (positions .entry)) (now (lfe .entry)) .panner .inv ⌝ }
-    ensures num_nbrs { λ _. ⌜ now («num_nbrs» .exit) ≡ newOf (now (positions .entry)) (now (lfe .entry)) .panner .«num_nbrs» ⌝ }
-    ensures imag_nbrs { λ _. ⌜ now («imag_nbrs» .exit) ≡ newOf (now (positions .entry)) (now (lfe .entry)) .panner .«imag_nbrs» ⌝ }
+    ensures record { λ _. ⌜ HandedOut (newOf (now (positions .entry)) (now (lfe .entry)) .panner) (now (head .exit)) (now («pair_numbers» .exit)) (now («pair_bytes» .exit)) (now (slots .exit)) (now («pt_out» .exit)) (now («pt_dir» .exit)) (now (idx .exit)) (now (inv .exit)) (now («num_nbrs» .exit)) (now («imag_nbrs» .exit)) ⌝ }
 {
     let made = layout::new(positions, lfe);
     *imaginary = made.imaginary;
@@ -89,16 +78,16 @@ pub extern "C" fn rt_num_outputs(
     ensures count { λ _. ⌜ now (count .exit) ≡ numOutputsOf (recordFrom (now (head .entry)) (now («pair_numbers» .entry)) (now («pair_bytes» .entry)) (now (slots .entry)) (now («pt_out» .entry)) (now («pt_dir» .entry)) (now (idx .entry)) (now (inv .entry)) (now («num_nbrs» .entry)) (now («imag_nbrs» .entry))) .count ⌝ }
 {
     let p = record_from(
-        *head,
-        *pair_numbers,
-        *pair_bytes,
-        *slots,
-        *pt_out,
-        *pt_dir,
-        *idx,
-        *inv,
-        *num_nbrs,
-        *imag_nbrs,
+        head,
+        pair_numbers,
+        pair_bytes,
+        slots,
+        pt_out,
+        pt_dir,
+        idx,
+        inv,
+        num_nbrs,
+        imag_nbrs,
     );
     let r = panner::num_outputs(p);
     *count = r.count;
@@ -126,36 +115,18 @@ pub extern "C" fn rt_gains(
     ensures buffer { λ _. ⌜ now (out .exit) ≡ gainsBuffer (recordFrom (now (head .entry)) (now («pair_numbers» .entry)) (now («pair_bytes» .entry)) (now (slots .entry)) (now («pt_out» .entry)) (now («pt_dir» .entry)) (now (idx .entry)) (now (inv .entry)) (now («num_nbrs» .entry)) (now («imag_nbrs» .entry))) az el (now (out .entry)) ⌝ }
 {
     let p = record_from(
-        *head,
-        *pair_numbers,
-        *pair_bytes,
-        *slots,
-        *pt_out,
-        *pt_dir,
-        *idx,
-        *inv,
-        *num_nbrs,
-        *imag_nbrs,
+        head,
+        pair_numbers,
+        pair_bytes,
+        slots,
+        pt_out,
+        pt_dir,
+        idx,
+        inv,
+        num_nbrs,
+        imag_nbrs,
     );
     gains::gains(p, az, el, out)
-}
-
-// Row i of the directions into the i-th part of `width` places, as many as there are azimuths, elevations and parts.
-fn rows(p: VbapPanner, az: &[f32], el: &[f32], width: usize, out: &mut [f32])
-    ensures { λ _. ⌜ now (out .exit) ≡ rowsOf p (now (az .entry)) (now (el .entry)) width (now (out .entry)) ⌝ }
-{
-    let n = least(az.len(), el.len());
-    let mut from: usize = 0;
-    let mut i: usize = 0;
-    while i < n {
-        if out.len() - from < width {
-            return;
-        }
-        let to = from + width;
-        gains::gains(p, az[i], el[i], &mut out[from..to]);
-        from = to;
-        i += 1;
-    }
 }
 
 // A row for each direction; the record is taken in once.
@@ -180,18 +151,18 @@ pub extern "C" fn rt_gains_all(
     ensures buffer { λ _. ⌜ now (out .exit) ≡ rowsOf (recordFrom (now (head .entry)) (now («pair_numbers» .entry)) (now («pair_bytes» .entry)) (now (slots .entry)) (now («pt_out» .entry)) (now («pt_dir» .entry)) (now (idx .entry)) (now (inv .entry)) (now («num_nbrs» .entry)) (now («imag_nbrs» .entry))) (now (az .entry)) (now (el .entry)) width (now (out .entry)) ⌝ }
 {
     let p = record_from(
-        *head,
-        *pair_numbers,
-        *pair_bytes,
-        *slots,
-        *pt_out,
-        *pt_dir,
-        *idx,
-        *inv,
-        *num_nbrs,
-        *imag_nbrs,
+        head,
+        pair_numbers,
+        pair_bytes,
+        slots,
+        pt_out,
+        pt_dir,
+        idx,
+        inv,
+        num_nbrs,
+        imag_nbrs,
     );
-    rows(p, az, el, width, out);
+    carried::directions::rows(p, az, el, width, out);
     let r = panner::num_outputs(p);
     r.number
 }

@@ -3,7 +3,6 @@
 // The modules hold the panner's functions: a record and a session travel in lent arrays there.
 mod layouts;
 mod ramps;
-mod record;
 mod sessions;
 
 ghost use mathlib.Core.Path.{_≡_};
@@ -11,10 +10,10 @@ ghost use Prim.Native.Nat.{min};
 ghost use lib.ListN.{length};
 ghost use lib.Ieee.{binary32, binary64};
 ghost use Rattle.ieee.specs.Narrow.{narrowOf};
-ghost use Rattle.ieee.specs.Root.{sqrtOf};
+ghost use Rattle.root.specs.Root.{sqrtOf};
 ghost use Rattle.trig.specs.Sine.{sinOf, cosOf};
 ghost use Rattle.trig.specs.Arctangent.{atan2Of};
-ghost use Rattle.boundary.specs.Arrays.{at, Filled};
+ghost use Rattle.arrays.specs.Arrays.{at, Filled};
 
 #[no_mangle]
 pub extern "C" fn rt_narrow(x: f64) -> f32
@@ -27,14 +26,14 @@ pub extern "C" fn rt_narrow(x: f64) -> f32
 pub extern "C" fn rt_sqrt32(x: f32) -> f32
     ensures { λ r. ⌜ r ≡ sqrtOf binary32 x ⌝ }
 {
-    ieee::sqrt32(x)
+    root::sqrt32(x)
 }
 
 #[no_mangle]
 pub extern "C" fn rt_sqrt64(x: f64) -> f64
     ensures { λ r. ⌜ r ≡ sqrtOf binary64 x ⌝ }
 {
-    ieee::sqrt64(x)
+    root::sqrt64(x)
 }
 
 #[no_mangle]
@@ -58,46 +57,25 @@ pub extern "C" fn rt_atan2(y: f64, x: f64) -> f64
     trig::atan2(y, x)
 }
 
-fn least(a: usize, b: usize) -> usize
-    ensures { λ r. ⌜ r ≡ min a b ⌝ }
-{
-    if a < b { a } else { b }
-}
-
 #[no_mangle]
 pub extern "C" fn rt_narrow_all(src: &[f64], dst: &mut [f32])
     ensures { λ _. ⌜ Filled (min (length (now (src .entry))) (length (now (dst .entry)))) (λ i. narrowOf (at (now (src .entry)) i)) (now (dst .entry)) (now (dst .exit)) ⌝ }
 {
-    let n = least(src.len(), dst.len());
-    let mut i = 0;
-    while i < n {
-        dst[i] = ieee::narrow(src[i]);
-        i += 1;
-    }
+    arrays::narrow_all(src, dst)
 }
 
 #[no_mangle]
 pub extern "C" fn rt_sqrt32_all(src: &[f32], dst: &mut [f32])
     ensures { λ _. ⌜ Filled (min (length (now (src .entry))) (length (now (dst .entry)))) (λ i. sqrtOf binary32 (at (now (src .entry)) i)) (now (dst .entry)) (now (dst .exit)) ⌝ }
 {
-    let n = least(src.len(), dst.len());
-    let mut i = 0;
-    while i < n {
-        dst[i] = ieee::sqrt32(src[i]);
-        i += 1;
-    }
+    arrays::sqrt32_all(src, dst)
 }
 
 #[no_mangle]
 pub extern "C" fn rt_sqrt64_all(src: &[f64], dst: &mut [f64])
     ensures { λ _. ⌜ Filled (min (length (now (src .entry))) (length (now (dst .entry)))) (λ i. sqrtOf binary64 (at (now (src .entry)) i)) (now (dst .entry)) (now (dst .exit)) ⌝ }
 {
-    let n = least(src.len(), dst.len());
-    let mut i = 0;
-    while i < n {
-        dst[i] = ieee::sqrt64(src[i]);
-        i += 1;
-    }
+    arrays::sqrt64_all(src, dst)
 }
 
 // Sine and cosine of each value.
@@ -106,14 +84,7 @@ pub extern "C" fn rt_sin_cos_all(src: &[f64], sin: &mut [f64], cos: &mut [f64])
     ensures { λ _. ⌜ Filled (min (length (now (src .entry))) (min (length (now (sin .entry))) (length (now (cos .entry))))) (λ i. sinOf (at (now (src .entry)) i)) (now (sin .entry)) (now (sin .exit)) ⌝ }
     ensures { λ _. ⌜ Filled (min (length (now (src .entry))) (min (length (now (sin .entry))) (length (now (cos .entry))))) (λ i. cosOf (at (now (src .entry)) i)) (now (cos .entry)) (now (cos .exit)) ⌝ }
 {
-    let n = least(src.len(), least(sin.len(), cos.len()));
-    let mut i = 0;
-    while i < n {
-        let r = trig::sin_cos(src[i]);
-        sin[i] = r.sin;
-        cos[i] = r.cos;
-        i += 1;
-    }
+    arrays::sin_cos_all(src, sin, cos)
 }
 
 // The angle of each point, y before x.
@@ -121,10 +92,5 @@ pub extern "C" fn rt_sin_cos_all(src: &[f64], sin: &mut [f64], cos: &mut [f64])
 pub extern "C" fn rt_atan2_all(y: &[f64], x: &[f64], dst: &mut [f64])
     ensures { λ _. ⌜ Filled (min (length (now (y .entry))) (min (length (now (x .entry))) (length (now (dst .entry))))) (λ i. atan2Of (at (now (y .entry)) i) (at (now (x .entry)) i)) (now (dst .entry)) (now (dst .exit)) ⌝ }
 {
-    let n = least(y.len(), least(x.len(), dst.len()));
-    let mut i = 0;
-    while i < n {
-        dst[i] = trig::atan2(y[i], x[i]);
-        i += 1;
-    }
+    arrays::atan2_all(y, x, dst)
 }

@@ -4,8 +4,7 @@ ghost use Prim.Native.Nat.{min};
 ghost use lib.ListN.{length};
 ghost use Rattle.ramp.specs.Mixed.{normalizedLerpGainOf};
 ghost use Rattle.ramp.specs.Ramp.{rampAddOf};
-ghost use Rattle.boundary.specs.Arrays.{at, Filled};
-use crate::least;
+ghost use Rattle.arrays.specs.Arrays.{at, Filled};
 
 #[no_mangle]
 pub extern "C" fn rt_normalized_lerp_gain(from: f32, to: f32, dot: f32, t: f32) -> f32
@@ -25,15 +24,7 @@ pub extern "C" fn rt_normalized_lerp_gain_all(
 )
     ensures { λ _. ⌜ Filled (min (min (length (now (from .entry))) (length (now (to .entry)))) (min (min (length (now (dot .entry))) (length (now (t .entry)))) (length (now (dst .entry))))) (λ i. normalizedLerpGainOf (at (now (from .entry)) i) (at (now (to .entry)) i) (at (now (dot .entry)) i) (at (now (t .entry)) i)) (now (dst .entry)) (now (dst .exit)) ⌝ }
 {
-    let n = least(
-        least(from.len(), to.len()),
-        least(least(dot.len(), t.len()), dst.len()),
-    );
-    let mut i = 0;
-    while i < n {
-        dst[i] = ramp::normalized_lerp_gain(from[i], to[i], dot[i], t[i]);
-        i += 1;
-    }
+    arrays::normalized_lerp_gain_all(from, to, dot, t, dst)
 }
 
 #[no_mangle]

@@ -2,37 +2,17 @@
 ghost use mathlib.Core.Path.{_≡_};
 ghost use Rattle.history.specs.Calls.{place, takeBack, settle, render};
 ghost use Rattle.session.specs.Session.{renderedBuffer};
-ghost use Rattle.session.specs.Open.{openOf};
-ghost use Rattle.boundary.specs.Records.{headOf, pairNumbers, pairBytes, recordFrom};
-ghost use Rattle.boundary.specs.Sessions.{sessionFrom, Left, placeTakeBack};
-use crate::least;
-use crate::record::bytes_of;
-use crate::record::head_of;
-use crate::record::numbers_of;
-use crate::record::record_from;
-use panner::VbapPanner;
-use session::Answer;
-use session::Session;
+ghost use Rattle.session_open.specs.Open.{openOf};
+ghost use Rattle.carried.specs.Records.{HandedOut, recordFrom};
+ghost use Rattle.carried.specs.Sessions.{sessionFrom, Left, placeTakeBack};
+use carried::record::bytes_of;
+use carried::record::head_of;
+use carried::record::numbers_of;
+use carried::sessions::leave_standing;
+use carried::sessions::leave_starts;
+use carried::sessions::session_from;
 
-fn session_from(
-    panner: VbapPanner,
-    sources: u8,
-    counts: [u8; 8],
-    standing: [f32; 256],
-    starts: [f32; 320],
-) -> Session
-    ensures { λ r. ⌜ r ≡ sessionFrom panner sources counts standing starts ⌝ }
-{
-    Session {
-        panner,
-        sources,
-        counts,
-        standing,
-        starts,
-    }
-}
-
-// `session::open`: its number, and the rest of its answer in the lent arrays.
+// `session_open::open`: its number, and the rest of its answer in the lent arrays.
 #[no_mangle]
 pub extern "C" fn rt_open(
     positions: &[f32],
@@ -56,25 +36,15 @@ pub extern "C" fn rt_open(
 ) -> u32
     ensures number { λ r. ⌜ r ≡ openOf (now (positions .entry)) (now (lfe .entry)) sources .number ⌝ }
     ensures imaginary { λ _. ⌜ now (imaginary .exit) ≡ openOf (now (positions .entry)) (now (lfe .entry)) sources .imaginary ⌝ }
-    ensures head { λ _. ⌜ now (head .exit) ≡ headOf (openOf (now (positions .entry)) (now (lfe .entry)) sources .session .panner) ⌝ }
-    ensures numbers { λ _. ⌜ now («pair_numbers» .exit) ≡ pairNumbers (openOf (now (positions .entry)) (now (lfe .entry)) sources .session .panner .«num_pairs») (openOf (now (positions .entry)) (now (lfe .entry)) sources .session .panner .pairs) ⌝ }
-    ensures bytes { λ _. ⌜ now («pair_bytes» .exit) ≡ pairBytes (openOf (now (positions .entry)) (now (lfe .entry)) sources .session .panner .«num_pairs») (openOf (now (positions .entry)) (now (lfe .entry)) sources .session .panner .pairs) ⌝ }
-    ensures slots { λ _. ⌜ now (slots .exit) ≡ openOf (now (positions .entry)) (now (lfe .entry)) sources .session .panner .slots ⌝ }
-    ensures pt_out { λ _. ⌜ now («pt_out» .exit) ≡ openOf (now (positions .entry)) (now (lfe .entry)) sources .session .panner .«pt_out» ⌝ }
-    ensures pt_dir { λ _. ⌜ now («pt_dir» .exit) ≡ openOf (now (positions .entry)) (now (lfe .entry)) sources .session .panner .«pt_dir» ⌝ }
-    ensures idx { λ _. ⌜ now (idx .exit) ≡ openOf (now (positions .entry)) (now (lfe .entry)) sources .session .panner .idx ⌝ }
-    ensures inv { λ _. ⌜ now (inv .exit) ≡ openOf (now (positions .entry)) (now (lfe .entry)) sources .session .panner .inv ⌝ }
-    ensures num_nbrs { λ _. ⌜ now («num_nbrs» .exit) ≡ openOf (now (positions .entry)) (now (lfe .entry)) sources .session .panner .«num_nbrs» ⌝ }
-    ensures imag_nbrs { λ _. ⌜ now («imag_nbrs» .exit) ≡ openOf (now (positions .entry)) (now (lfe .entry)) sources .session .panner .«imag_nbrs» ⌝ }
+    ensures record { λ _. ⌜ HandedOut (openOf (now (positions .entry)) (now (lfe .entry)) sources .session .panner) (now (head .exit)) (now («pair_numbers» .exit)) (now («pair_bytes» .exit)) (now (slots .exit)) (now («pt_out» .exit)) (now («pt_dir» .exit)) (now (idx .exit)) (now (inv .exit)) (now («num_nbrs» .exit)) (now («imag_nbrs» .exit)) ⌝ }
     ensures held { λ _. ⌜ now (held .exit) ≡ openOf (now (positions .entry)) (now (lfe .entry)) sources .session .sources ⌝ }
     ensures counts { λ _. ⌜ now (counts .exit) ≡ openOf (now (positions .entry)) (now (lfe .entry)) sources .session .counts ⌝ }
     ensures standing { λ _. ⌜ now (standing .exit) ≡ openOf (now (positions .entry)) (now (lfe .entry)) sources .session .standing ⌝ }
     ensures starts { λ _. ⌜ now (starts .exit) ≡ openOf (now (positions .entry)) (now (lfe .entry)) sources .session .starts ⌝ }
 {
-    let opened = session::open(positions, lfe, sources);
+    let opened = session_open::open(positions, lfe, sources);
     *imaginary = opened.imaginary;
-    let s = opened.session;
-    let p = s.panner;
+    let p = opened.session.panner;
     let h = head_of(p);
     *head = h;
     let ps = p.pairs;
@@ -97,12 +67,12 @@ pub extern "C" fn rt_open(
     *num_nbrs = m;
     let b = p.imag_nbrs;
     *imag_nbrs = b;
-    *held = s.sources;
-    let c = s.counts;
+    *held = opened.session.sources;
+    let c = opened.session.counts;
     *counts = c;
-    let t = s.standing;
+    let t = opened.session.standing;
     *standing = t;
-    let g = s.starts;
+    let g = opened.session.starts;
     *starts = g;
     opened.number
 }
@@ -130,29 +100,24 @@ pub extern "C" fn rt_place(
 ) -> u32
     ensures left { λ r. ⌜ Left (sessionFrom (recordFrom (now (head .entry)) (now («pair_numbers» .entry)) (now («pair_bytes» .entry)) (now (slots .entry)) (now («pt_out» .entry)) (now («pt_dir» .entry)) (now (idx .entry)) (now (inv .entry)) (now («num_nbrs» .entry)) (now («imag_nbrs» .entry))) sources (now (counts .entry)) (now (standing .entry)) (now (starts .entry))) (place source az el) r (now (counts .exit)) (now (standing .exit)) (now (starts .exit)) ⌝ }
 {
-    let p = record_from(
-        *head,
-        *pair_numbers,
-        *pair_bytes,
-        *slots,
-        *pt_out,
-        *pt_dir,
-        *idx,
-        *inv,
-        *num_nbrs,
-        *imag_nbrs,
+    let s = session_from(
+        head,
+        pair_numbers,
+        pair_bytes,
+        slots,
+        pt_out,
+        pt_dir,
+        idx,
+        inv,
+        num_nbrs,
+        imag_nbrs,
+        sources,
+        counts,
+        standing,
+        starts,
     );
-    let s = session_from(p, sources, *counts, *standing, *starts);
     let r = session::place(s, source, az, el);
-    if r.number != 0 {
-        return r.number;
-    }
-    let next = r.session;
-    let c = next.counts;
-    *counts = c;
-    let d = next.standing;
-    *standing = d;
-    0
+    leave_standing(r, counts, standing)
 }
 
 // `session::take_back`.
@@ -176,29 +141,24 @@ pub extern "C" fn rt_take_back(
 ) -> u32
     ensures left { λ r. ⌜ Left (sessionFrom (recordFrom (now (head .entry)) (now («pair_numbers» .entry)) (now («pair_bytes» .entry)) (now (slots .entry)) (now («pt_out» .entry)) (now («pt_dir» .entry)) (now (idx .entry)) (now (inv .entry)) (now («num_nbrs» .entry)) (now («imag_nbrs» .entry))) sources (now (counts .entry)) (now (standing .entry)) (now (starts .entry))) (takeBack source) r (now (counts .exit)) (now (standing .exit)) (now (starts .exit)) ⌝ }
 {
-    let p = record_from(
-        *head,
-        *pair_numbers,
-        *pair_bytes,
-        *slots,
-        *pt_out,
-        *pt_dir,
-        *idx,
-        *inv,
-        *num_nbrs,
-        *imag_nbrs,
+    let s = session_from(
+        head,
+        pair_numbers,
+        pair_bytes,
+        slots,
+        pt_out,
+        pt_dir,
+        idx,
+        inv,
+        num_nbrs,
+        imag_nbrs,
+        sources,
+        counts,
+        standing,
+        starts,
     );
-    let s = session_from(p, sources, *counts, *standing, *starts);
     let r = session::take_back(s, source);
-    if r.number != 0 {
-        return r.number;
-    }
-    let next = r.session;
-    let c = next.counts;
-    *counts = c;
-    let d = next.standing;
-    *standing = d;
-    0
+    leave_standing(r, counts, standing)
 }
 
 // `session::settle`.
@@ -222,29 +182,24 @@ pub extern "C" fn rt_settle(
 ) -> u32
     ensures left { λ r. ⌜ Left (sessionFrom (recordFrom (now (head .entry)) (now («pair_numbers» .entry)) (now («pair_bytes» .entry)) (now (slots .entry)) (now («pt_out» .entry)) (now («pt_dir» .entry)) (now (idx .entry)) (now (inv .entry)) (now («num_nbrs» .entry)) (now («imag_nbrs» .entry))) sources (now (counts .entry)) (now (standing .entry)) (now (starts .entry))) (settle source) r (now (counts .exit)) (now (standing .exit)) (now (starts .exit)) ⌝ }
 {
-    let p = record_from(
-        *head,
-        *pair_numbers,
-        *pair_bytes,
-        *slots,
-        *pt_out,
-        *pt_dir,
-        *idx,
-        *inv,
-        *num_nbrs,
-        *imag_nbrs,
+    let s = session_from(
+        head,
+        pair_numbers,
+        pair_bytes,
+        slots,
+        pt_out,
+        pt_dir,
+        idx,
+        inv,
+        num_nbrs,
+        imag_nbrs,
+        sources,
+        counts,
+        standing,
+        starts,
     );
-    let s = session_from(p, sources, *counts, *standing, *starts);
     let r = session::settle(s, source);
-    if r.number != 0 {
-        return r.number;
-    }
-    let next = r.session;
-    let c = next.counts;
-    *counts = c;
-    let d = next.standing;
-    *standing = d;
-    0
+    leave_standing(r, counts, standing)
 }
 
 // `render::render`.
@@ -271,53 +226,24 @@ pub extern "C" fn rt_render(
     ensures left { λ r. ⌜ Left (sessionFrom (recordFrom (now (head .entry)) (now («pair_numbers» .entry)) (now («pair_bytes» .entry)) (now (slots .entry)) (now («pt_out» .entry)) (now («pt_dir» .entry)) (now (idx .entry)) (now (inv .entry)) (now («num_nbrs» .entry)) (now («imag_nbrs» .entry))) sources (now (counts .entry)) (now (standing .entry)) (now (starts .entry))) (render block (now (samples .entry)) (now (outputs .entry))) r (now (counts .exit)) (now (standing .exit)) (now (starts .exit)) ⌝ }
     ensures buffer { λ _. ⌜ now (outputs .exit) ≡ renderedBuffer (sessionFrom (recordFrom (now (head .entry)) (now («pair_numbers» .entry)) (now («pair_bytes» .entry)) (now (slots .entry)) (now («pt_out» .entry)) (now («pt_dir» .entry)) (now (idx .entry)) (now (inv .entry)) (now («num_nbrs» .entry)) (now («imag_nbrs» .entry))) sources (now (counts .entry)) (now (standing .entry)) (now (starts .entry))) block (now (samples .entry)) (now (outputs .entry)) ⌝ }
 {
-    let p = record_from(
-        *head,
-        *pair_numbers,
-        *pair_bytes,
-        *slots,
-        *pt_out,
-        *pt_dir,
-        *idx,
-        *inv,
-        *num_nbrs,
-        *imag_nbrs,
+    let s = session_from(
+        head,
+        pair_numbers,
+        pair_bytes,
+        slots,
+        pt_out,
+        pt_dir,
+        idx,
+        inv,
+        num_nbrs,
+        imag_nbrs,
+        sources,
+        counts,
+        standing,
+        starts,
     );
-    let s = session_from(p, sources, *counts, *standing, *starts);
     let r = render::render(s, block, samples, outputs);
-    if r.number != 0 {
-        return r.number;
-    }
-    let next = r.session;
-    let g = next.starts;
-    *starts = g;
-    0
-}
-
-// For each direction a `place` of it and a `take_back`, up to the first that is refused.
-fn place_take_back(from: Session, source: usize, az: &[f32], el: &[f32]) -> Answer
-    ensures { λ r. ⌜ r ≡ placeTakeBack from source (now (az .entry)) (now (el .entry)) ⌝ }
-{
-    let n = least(az.len(), el.len());
-    let mut s = from;
-    let mut i: usize = 0;
-    while i < n {
-        let placed = session::place(s, source, az[i], el[i]);
-        if placed.number != 0 {
-            return placed;
-        }
-        let next = placed.session;
-        let back = session::take_back(next, source);
-        if back.number != 0 {
-            return back;
-        }
-        s = back.session;
-        i += 1;
-    }
-    Answer {
-        number: 0,
-        session: s,
-    }
+    leave_starts(r, starts)
 }
 
 // The same, on a session that is taken in once and, refused or not, handed back.
@@ -346,24 +272,26 @@ pub extern "C" fn rt_place_take_back_all(
     ensures standing { λ _. ⌜ now (standing .exit) ≡ placeTakeBack (sessionFrom (recordFrom (now (head .entry)) (now («pair_numbers» .entry)) (now («pair_bytes» .entry)) (now (slots .entry)) (now («pt_out» .entry)) (now («pt_dir» .entry)) (now (idx .entry)) (now (inv .entry)) (now («num_nbrs» .entry)) (now («imag_nbrs» .entry))) sources (now (counts .entry)) (now (standing .entry)) (now (starts .entry))) source (now (az .entry)) (now (el .entry)) .session .standing ⌝ }
     ensures starts { λ _. ⌜ now (starts .exit) ≡ now (starts .entry) ⌝ }
 {
-    let p = record_from(
-        *head,
-        *pair_numbers,
-        *pair_bytes,
-        *slots,
-        *pt_out,
-        *pt_dir,
-        *idx,
-        *inv,
-        *num_nbrs,
-        *imag_nbrs,
+    let s = session_from(
+        head,
+        pair_numbers,
+        pair_bytes,
+        slots,
+        pt_out,
+        pt_dir,
+        idx,
+        inv,
+        num_nbrs,
+        imag_nbrs,
+        sources,
+        counts,
+        standing,
+        starts,
     );
-    let s = session_from(p, sources, *counts, *standing, *starts);
-    let r = place_take_back(s, source, az, el);
-    let next = r.session;
-    let c = next.counts;
+    let r = carried::directions::place_take_back(s, source, az, el);
+    let c = r.session.counts;
     *counts = c;
-    let d = next.standing;
+    let d = r.session.standing;
     *standing = d;
     r.number
 }

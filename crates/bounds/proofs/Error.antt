@@ -3,7 +3,7 @@
 use mathlib.Core.Path.{_≡_, refl, sym, ap, _∙_, subst}
 use mathlib.Core.Logic.{inl, inr}
 use Prim.Native.Nat.{ℕ, suc, _+_, _-_, _*_, _/_, _%_, _^_, _≤_, _<_, compare}
-use native.Mathlib.Nat.{le-trans, le-of-eq, mul-one, mul-comm, mul-assoc, mul-left-comm, mul-pos, mul-le-mul, mul-le-mul-right, le-div-iff-mul-le, div-add-mod', mod-lt, eq-zero-or-pos}
+use native.Mathlib.Nat.{le-trans, le-of-eq, le-suc, mul-one, mul-comm, mul-assoc, mul-left-comm, mul-pos, mul-le-mul, mul-le-mul-right, le-div-iff-mul-le, div-add-mod', mod-lt, eq-zero-or-pos}
 use native.Mathlib.Omega.{arith}
 use lib.Pow.{pow-add, pow-pos}
 use lib.Ieee.{Format, binary32, binary64, prec, low, size}
@@ -69,10 +69,7 @@ below-by x n u h D a b e =
     omega arith
 
 exact-above : (x n den D : ℕ) → 2 * x ≤ 2 * n + den → x * D ≤ (n + den) * suc D
-exact-above x n den D h = let y : x ≤ n + den = omega arith in mul-le-mul y (le-more D)
-  where
-    le-more : (D : ℕ) → D ≤ suc D
-    le-more D = omega arith
+exact-above x n den D h = let y : x ≤ n + den = omega arith in mul-le-mul y (le-suc D)
 
 no-more : (n D den : ℕ) → n * suc D ≤ (n + den) * suc D
 no-more n D den = omega arith

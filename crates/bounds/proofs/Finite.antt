@@ -4,7 +4,7 @@ use lib.Dec.{T}
 use lib.Ieee.{Float, nan, inf, fin, Format, add, mul}
 use lib.Ieee.Scale.{finite}
 use Rattle.ieee.specs.Values.{isFinite}
-use Rattle.ieee.specs.Root.{sqrtOf}
+use Rattle.root.specs.Root.{sqrtOf}
 
 pub finite-is : (x : Float) → T (isFinite x) → T (finite x)
 unfolding isFinite

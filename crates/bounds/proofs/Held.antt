@@ -2,7 +2,7 @@
 use mathlib.Core.Path.{_≡_, refl, sym, ap, _∙_, subst}
 use mathlib.Core.Logic.{inl, inr}
 use Prim.Native.Nat.{ℕ, zero, suc, _+_, _-_, _*_, _/_, _%_, _^_, _≤_, _<_, zero-le, compare}
-use native.Mathlib.Nat.{le-trans, le-of-eq, lt-of-le-of-lt, lt-irrefl, eq-or-lt-of-le, eq-zero-or-pos, mul-assoc, mul-right-comm, mul-one, one-mul, zero-mul, mul-le-mul-right, mul-pos, le-div-iff-mul-le, div-div-eq-div-mul, eq-of-mul-eq-mul-right}
+use native.Mathlib.Nat.{le-trans, le-of-eq, le-of-lt, lt-of-le-of-lt, lt-irrefl, eq-or-lt-of-le, eq-zero-or-pos, mul-assoc, mul-right-comm, mul-one, one-mul, zero-mul, mul-le-mul-right, mul-pos, le-div-iff-mul-le, div-div-eq-div-mul, eq-of-mul-eq-mul-right}
 use native.Mathlib.Omega.{arith}
 use mathlib.Core.Bool.{Bool, false, _&&_}
 use lib.IntN.{ℤ, pos, negsuc}
@@ -16,7 +16,7 @@ use lib.Ieee.Nearest.{closest, closest-mono, nearest-ge, div-mono}
 use lib.Ieee.Order.{drop, kept}
 use lib.Ieee.Scale.{grid, overflow}
 use Rattle.ieee.proofs.Laws.{pow-back}
-use Rattle.ieee.proofs.Grid.{same-value, units-size}
+use Rattle.ieee.proofs.Grid.{units-size}
 use Rattle.bounds.proofs.Units.{Val, round-Val}
 
 -- ---- private in lib.Ieee.Order, so written again here
@@ -81,9 +81,6 @@ grid-held f num den = record { q = kept (prec f) (num * 2 ^ low f) den; j = drop
 pub held : (f : Format) (q j : ℕ) → q ≤ 2 ^ prec f → Held f (q * 2 ^ j)
 held f q j h = record { q = q; j = j; few = h; is = refl }
 
-pub val-unique : {f : Format} {x : Float} {s t : Bool} {X Y : ℕ} → Val f x s X → Val f x t Y → X ≡ Y
-val-unique {f} {x} {s} {t} {X} {Y} v w = same-value x s t X Y (2 ^ low f) (pow-pos (low f)) (v .has) (w .has)
-
 at : (f : Format) (q j : ℕ) → q < 2 ^ prec f → q * 2 ^ j < overflow f → grid f (q * 2 ^ j) (2 ^ low f) ≡ q * 2 ^ j
 at f q j few h =
     let v = q * 2 ^ j in
@@ -122,21 +119,15 @@ grid-numbers f m n h =
 
 -- ---- a value that the format holds, in smallest values
 place : (f : Format) (m y : ℕ) (e : ℤ) → m < 2 ^ prec f → down e ≤ 2 ^ low f → m * up e * 2 ^ low f ≡ y * down e → Held f y
-place f m y (pos a) h d v = record { q = m; j = a + low f; few = le-of-lt' h; is = sym (mul-one y) ∙ sym v ∙ mul-assoc m (2 ^ a) (2 ^ low f) ∙ ap (λ (x : ℕ). m * x) (sym (pow-add 2 a (low f))) }
-  where
-    le-of-lt' : {a b : ℕ} → a < b → a ≤ b
-    le-of-lt' h = omega arith
+place f m y (pos a) h d v = record { q = m; j = a + low f; few = le-of-lt h; is = sym (mul-one y) ∙ sym v ∙ mul-assoc m (2 ^ a) (2 ^ low f) ∙ ap (λ (x : ℕ). m * x) (sym (pow-add 2 a (low f))) }
 place f m y (negsuc a) h d v =
     let l : suc a ≤ low f = pow-back (suc a) (low f) d in record {
       q = m;
       j = low f - suc a;
-      few = le-of-lt' h;
+      few = le-of-lt h;
       is = eq-of-mul-eq-mul-right (2 ^ suc a) (pow-pos (suc a)) y (m * 2 ^ (low f - suc a))
           (sym v ∙ ap (λ (x : ℕ). x * 2 ^ low f) (mul-one m) ∙ ap (λ (x : ℕ). m * x) (ap (λ (x : ℕ). 2 ^ x) (sym (back (low f) (suc a) l)) ∙ pow-add 2 (low f - suc a) (suc a)) ∙ sym (mul-assoc m (2 ^ (low f - suc a)) (2 ^ suc a)));
     }
-  where
-    le-of-lt' : {a b : ℕ} → a < b → a ≤ b
-    le-of-lt' h = omega arith
 
 pub zero-is : (y d : ℕ) → 0 < d → y * d ≡ 0 → y ≡ 0
 zero-is y d p e = elim (eq-zero-or-pos y) [ inl z ↦ z | inr z ↦ absurd (lt-irrefl 0 (subst (λ (x : ℕ). 0 < x) e (mul-pos z p))) ]

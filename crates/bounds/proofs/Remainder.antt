@@ -1,8 +1,8 @@
 -- The remainder has the dividend's sign and is no larger than the divisor; rem_euclid lies from 0 to the modulus, in every format. Assumes nothing.
 use mathlib.Core.Path.{_≡_, refl, sym, ap, _∙_, subst}
 use mathlib.Core.Logic.{inl}
-use Prim.Native.Nat.{ℕ, _-_, _*_, _%_, _^_, _≤_, _<_}
-use native.Mathlib.Nat.{le-trans, le-of-eq, le-of-lt, lt-irrefl, mul-pos, mul-le-mul-right, mod-lt}
+use Prim.Native.Nat.{ℕ, _-_, _*_, _%_, _^_, _<_}
+use native.Mathlib.Nat.{sub-le, le-trans, le-of-eq, le-of-lt, lt-irrefl, mul-pos, mul-le-mul-right, mod-lt}
 use native.Mathlib.Omega.{arith}
 use mathlib.Core.Bool.{Bool, true, false, not, cond}
 use lib.IntN.{ℤ}
@@ -48,11 +48,8 @@ pub rem-euclid : {f : Format} {x m : Float} {s : Bool} {X M : ℕ} → Val f x s
 unfolding remEuclidOf
 rem-euclid {f} {x} {m} {s} {X} {M} v w p h l = let r = rem-most v w p h l in go r (lt (rem f x m) +0) (negative (r .val)) (from-zero r)
   where
-    less : (a b : ℕ) → a - b ≤ a
-    less a b = omega arith
-
     go : (r : Most f (rem f x m) s M) (b : Bool) → (T b → s ≡ true) → (T (not b) → FromZero f (rem f x m) M) → FromZero f (cond b (add f (rem f x m) m) (rem f x m)) M
     go r false k g = g tt
     go r true k g =
         let R : Val f (rem f x m) true (r .X) = subst (λ (b : Bool). Val f (rem f x m) b (r .X)) (k tt) (r .val) in
-        inl (round-most false (M - r .X) (2 ^ low f) M (add-turned R w (r .most)) (pow-pos (low f)) h l (mul-le-mul-right (2 ^ low f) (less M (r .X))))
+        inl (round-most false (M - r .X) (2 ^ low f) M (add-turned R w (r .most)) (pow-pos (low f)) h l (mul-le-mul-right (2 ^ low f) (sub-le M (r .X))))

@@ -3,7 +3,7 @@
 use mathlib.Core.Path.{_≡_, refl, sym, ap, ap₂, _∙_, subst}
 use mathlib.Core.Logic.{_⊎_, inl, inr}
 use Prim.Native.Nat.{ℕ, zero, suc, _+_, _-_, _*_, _%_, _^_, _≤_, _<_}
-use native.Mathlib.Nat.{le-refl, le-trans, le-of-eq, le-of-lt, lt-of-le-of-lt, lt-of-lt-of-le, mul-comm, mul-assoc, mul-right-comm, mul-pos, mul-le-mul, mul-le-mul-right, mul-le-mul-left, le-of-mul-le-mul-right, zero-mul, lt-of-mul-lt-mul-right, mul-lt-mul-of-pos-right}
+use native.Mathlib.Nat.{le-trans, add-le-add, sub-le, le-of-eq, le-of-lt, lt-of-le-of-lt, lt-of-lt-of-le, mul-comm, mul-assoc, mul-right-comm, mul-pos, mul-le-mul, mul-le-mul-right, mul-le-mul-left, le-of-mul-le-mul-right, zero-mul, lt-of-mul-lt-mul-right, mul-lt-mul-of-pos-right}
 use native.Mathlib.Omega.{arith}
 use mathlib.Core.Bool.{Bool, true, false, not, cond, _&&_}
 use lib.Dec.{T, leb, eqb, ltb, ltb→lt, nltb→le}
@@ -12,8 +12,8 @@ use lib.Ieee.{Float, nan, inf, fin, Format, binary32, binary64, prec, emax, low,
 use lib.Ieee.Fits.{down-pos, and-r}
 use lib.Ieee.Scale.{grid, overflow, finite, round-same}
 use Rattle.ieee.specs.Narrow.{narrowOf}
-use Rattle.bounds.proofs.Units.{left, right, taken, opened-add, Val, round-Val, val-finite, mul-round, div-round, add-round, add-unlike, sub-rest, neg-val, narrow-round, own-units}
-use Rattle.bounds.proofs.Held.{Held, grid-le, grid-ge, grid-numbers, fits-held, val-unique}
+use Rattle.bounds.proofs.Units.{left, right, taken, opened-add, Val, round-Val, val-finite, mul-round, div-round, add-round, add-unlike, sub-rest, neg-val, sub-is, narrow-round, own-units}
+use Rattle.bounds.proofs.Held.{Held, grid-le, grid-ge, grid-numbers}
 
 pub record Most (f : Format) (x : Float) (s : Bool) (B : ℕ) : Type 0 where
   pub X : ℕ
@@ -31,10 +31,6 @@ mag-of {f} {x} {s} h = record { s = s; X = h .X; val = h .val; most = h .most }
 
 pub mag-more : {f : Format} {x : Float} {A B : ℕ} → A ≤ B → Mag f x A → Mag f x B
 mag-more l h = record { s = h .s; X = h .X; val = h .val; most = le-trans (h .most) l }
-
--- the bound holds of the number by which any law knows x
-pub mag-le : {f : Format} {x : Float} {B : ℕ} {s : Bool} {X : ℕ} → Mag f x B → Val f x s X → X ≤ B
-mag-le {f} {x} {B} h v = subst (λ (z : ℕ). z ≤ B) (val-unique (h .val) v) (h .most)
 
 -- what it is for
 pub mag-finite : {f : Format} {x : Float} {B : ℕ} → Mag f x B → T (finite x)
@@ -129,50 +125,34 @@ same-or-not true false = inr refl
 same-or-not false true = inr refl
 same-or-not false false = inl refl
 
+-- the distance of X and Y
+distance-le : (X Y A B N : ℕ) → X ≤ A → Y ≤ B → ((Y ≤ X) × (N ≡ X - Y)) ⊎ ((X ≤ Y) × (N ≡ Y - X)) → N ≤ A + B
+distance-le X Y A B N a b (inl g) = omega arith
+distance-le X Y A B N a b (inr g) = omega arith
+
 pub mag-add : {f : Format} {x y : Float} {A B : ℕ} (C : ℕ) → Mag f x A → Mag f y B → Held f C → C < overflow f → A + B ≤ C → Mag f (add f x y) C
 mag-add {f} {x} {y} {A} {B} C h k c l b = elim (same-or-not (h .s) (k .s)) [
-  | inl e ↦ round-mag (h .s) (h .X + k .X) (2 ^ low f) C (add-round (h .val) (subst (λ (t : Bool). Val f y t (k .X)) e (k .val))) (pow-pos (low f)) c l (mul-le-mul-right (2 ^ low f) (plus (h .X) (k .X) A B C (h .most) (k .most) b))
+  | inl e ↦ round-mag (h .s) (h .X + k .X) (2 ^ low f) C (add-round (h .val) (subst (λ (t : Bool). Val f y t (k .X)) e (k .val))) (pow-pos (low f)) c l (mul-le-mul-right (2 ^ low f) (le-trans (add-le-add (h .most) (k .most)) b))
   | inr e ↦
       let d = distance-of f x y (h .val) (subst (λ (t : Bool). Val f y t (k .X)) e (k .val)) in
-      round-mag (d .0) (d .1) (2 ^ low f) C (d .2) (pow-pos (low f)) c l (mul-le-mul-right (2 ^ low f) (elim (d .3) [ inl g ↦ minus (h .X) (k .X) A B C (d .1) (h .most) b (g .1) | inr g ↦ minus' (h .X) (k .X) A B C (d .1) (k .most) b (g .1) ]))
+      round-mag (d .0) (d .1) (2 ^ low f) C (d .2) (pow-pos (low f)) c l (mul-le-mul-right (2 ^ low f) (le-trans (distance-le (h .X) (k .X) A B (d .1) (h .most) (k .most) (d .3)) b))
 ]
-  where
-    plus : (X Y A B C : ℕ) → X ≤ A → Y ≤ B → A + B ≤ C → X + Y ≤ C
-    plus X Y A B C a b c = omega arith
-
-    minus : (X Y A B C N : ℕ) → X ≤ A → A + B ≤ C → N ≡ X - Y → N ≤ C
-    minus X Y A B C N a c e = omega arith
-
-    minus' : (X Y A B C N : ℕ) → Y ≤ B → A + B ≤ C → N ≡ Y - X → N ≤ C
-    minus' X Y A B C N a c e = omega arith
 
 pub mag-neg : {f : Format} {x : Float} {A : ℕ} → Mag f x A → Mag f (neg x) A
 mag-neg h = record { s = not (h .s); X = h .X; val = neg-val (h .val); most = h .most }
 
 pub mag-sub : {f : Format} {x y : Float} {A B : ℕ} (C : ℕ) → Mag f x A → Mag f y B → Held f C → C < overflow f → A + B ≤ C → Mag f (sub f x y) C
-mag-sub {f} {x} {y} C h k c l b = subst (λ (z : Float). Mag f z C) (sym (opened f x y)) (mag-add C h (mag-neg k) c l b)
-  where
-    opened : (f : Format) (x y : Float) → sub f x y ≡ add f x (neg y)
-    opened f x y = unfold sub in refl
+mag-sub {f} {x} {y} C h k c l b = subst (λ (z : Float). Mag f z C) (sym (sub-is f x y)) (mag-add C h (mag-neg k) c l b)
 
 -- something so small beside x that the sum of the bounds is rounded down to x's
 pub mag-absorb : {f : Format} {x y : Float} {A B : ℕ} → Mag f x A → Mag f y B → grid f (A + B) (2 ^ low f) ≤ A → A < overflow f → Mag f (add f x y) A
 mag-absorb {f} {x} {y} {A} {B} h k c l = elim (same-or-not (h .s) (k .s)) [
-  | inl e ↦ go (h .s) (h .X + k .X) (add-round (h .val) (subst (λ (t : Bool). Val f y t (k .X)) e (k .val))) (plus (h .X) (k .X) A B (h .most) (k .most))
+  | inl e ↦ go (h .s) (h .X + k .X) (add-round (h .val) (subst (λ (t : Bool). Val f y t (k .X)) e (k .val))) (add-le-add (h .most) (k .most))
   | inr e ↦
       let d = distance-of f x y (h .val) (subst (λ (t : Bool). Val f y t (k .X)) e (k .val)) in
-      go (d .0) (d .1) (d .2) (elim (d .3) [ inl g ↦ minus (h .X) (k .X) (d .1) A B (h .most) (g .1) | inr g ↦ minus' (h .X) (k .X) (d .1) A B (k .most) (g .1) ])
+      go (d .0) (d .1) (d .2) (distance-le (h .X) (k .X) A B (d .1) (h .most) (k .most) (d .3))
 ]
   where
-    plus : (X Y A B : ℕ) → X ≤ A → Y ≤ B → X + Y ≤ A + B
-    plus X Y A B a b = omega arith
-
-    minus : (X Y N A B : ℕ) → X ≤ A → N ≡ X - Y → N ≤ A + B
-    minus X Y N A B a e = omega arith
-
-    minus' : (X Y N A B : ℕ) → Y ≤ B → N ≡ Y - X → N ≤ A + B
-    minus' X Y N A B a e = omega arith
-
     go : (s : Bool) (N : ℕ) → add f x y ≡ round f s N (2 ^ low f) → N ≤ A + B → Mag f (add f x y) A
     go s N e n =
         let le : grid f N (2 ^ low f) ≤ A = le-trans (grid-numbers f N (A + B) n) c in record {
@@ -197,10 +177,6 @@ widen-val {x} v = wide x v
 pub mag-widen : {x : Float} {A : ℕ} → Mag binary32 x A → Mag binary64 x (A * 2 ^ 925)
 mag-widen h = record { s = h .s; X = h .X * 2 ^ 925; val = widen-val (h .val); most = mul-le-mul-right (2 ^ 925) (h .most) }
 
--- any finite value of the format, as it is handed in
-pub mag-input : (f : Format) (x : Float) → T (finite x) → T (fits f x) → (B : ℕ) × Mag f x B × Held f B
-mag-input f x p h = let u = own-units f x p h in (u .1, record { s = u .0; X = u .1; val = u .2; most = le-refl (u .1) }, fits-held f x h (u .2))
-
 -- no finite value reaches the overflow
 pub mag-max : (f : Format) (x : Float) → T (finite x) → T (fits f x) → Mag f x (overflow f - 1)
 unfolding fits
@@ -223,10 +199,6 @@ mag-max f x p h = let u = own-units f x p h in record { s = u .0; X = u .1; val 
         (lt-of-lt-of-le (mul-lt-mul-of-pos-right (ltb→lt (suc m * up e) (2 ^ suc (emax f) * down e) (and-r (A && B && C) D h)) (pow-pos (low f))) (le-of-eq (mul-right-comm (2 ^ suc (emax f)) (down e) (2 ^ low f) ∙ ap (λ (z : ℕ). z * down e) (mul-comm (2 ^ suc (emax f)) (2 ^ low f) ∙ sym (pow-add 2 (low f) (suc (emax f))))))))
 
 -- ---- with the sign
-unlike-false : (s : Bool) → unlike false s ≡ s
-unlike-false true = refl
-unlike-false false = refl
-
 pub unlike-self : (s : Bool) → unlike s s ≡ false
 unlike-self true = refl
 unlike-self false = refl
@@ -254,10 +226,7 @@ square-most {s = s} h k l = most-sign (unlike-self s) (mul-most h h k l)
 -- c less something smaller keeps c's sign, and is no larger
 pub add-most : {f : Format} {c m : Float} {s : Bool} {C B : ℕ} → Val f c s C → Held f C → C < overflow f → Most f m (not s) B → B < C → Most f (add f c m) s C
 add-most {f} {c} {m} {s} {C} {B} v h l a b =
-    round-most s (C - a .X) (2 ^ low f) C (add-unlike v (a .val) (lt-of-le-of-lt (a .most) b)) (pow-pos (low f)) h l (mul-le-mul-right (2 ^ low f) (less C (a .X)))
-  where
-    less : (a b : ℕ) → a - b ≤ a
-    less a b = omega arith
+    round-most s (C - a .X) (2 ^ low f) C (add-unlike v (a .val) (lt-of-le-of-lt (a .most) b)) (pow-pos (low f)) h l (mul-le-mul-right (2 ^ low f) (sub-le C (a .X)))
 
 -- the sum of two values from 0 on, by its number, which is no smaller than a bound of theirs that the format holds
 pub record SumOf (f : Format) (x y : Float) (X Y C : ℕ) : Type 0 where
@@ -280,22 +249,16 @@ sum-val {f} {x} {y} {X} {Y} C v w h l b =
 pub most-absorb : {f : Format} {x y : Float} {s : Bool} {A B : ℕ} → Most f x s A → Most f y s B → grid f (A + B) (2 ^ low f) ≤ A → A < overflow f → Most f (add f x y) s A
 most-absorb {f} {x} {y} {s} {A} {B} h k c l =
     let N = h .X + k .X in
-    let le : grid f N (2 ^ low f) ≤ A = le-trans (grid-numbers f N (A + B) (plus (h .X) (k .X) A B (h .most) (k .most))) c in record {
+    let le : grid f N (2 ^ low f) ≤ A = le-trans (grid-numbers f N (A + B) (add-le-add (h .most) (k .most))) c in record {
       X = grid f N (2 ^ low f);
       val = subst (λ (z : Float). Val f z s (grid f N (2 ^ low f))) (sym (add-round (h .val) (k .val))) (round-Val f s N (2 ^ low f) (lt-of-le-of-lt le l));
       most = le;
     }
-  where
-    plus : (X Y A B : ℕ) → X ≤ A → Y ≤ B → X + Y ≤ A + B
-    plus X Y A B a b = omega arith
 
 -- x less what is no larger, both from 0 on
 pub rest-most : {f : Format} {x y : Float} {X : ℕ} → Val f x false X → Most f y false X → Held f X → X < overflow f → Most f (sub f x y) false X
 rest-most {f} {x} {y} {X} v m h l =
-    round-most false (X - m .X) (2 ^ low f) X (sub-rest v (m .val) (m .most)) (pow-pos (low f)) h l (mul-le-mul-right (2 ^ low f) (less X (m .X)))
-  where
-    less : (a b : ℕ) → a - b ≤ a
-    less a b = omega arith
+    round-most false (X - m .X) (2 ^ low f) X (sub-rest v (m .val) (m .most)) (pow-pos (low f)) h l (mul-le-mul-right (2 ^ low f) (sub-le X (m .X)))
 
 -- the divisor is K smallest values at least
 pub div-most : {f : Format} {x y : Float} {s t : Bool} {A Y : ℕ} (C K : ℕ) → Most f x s A → Val f y t Y → K ≤ Y → 0 < K → Held f C → C < overflow f → A * 2 ^ low f ≤ C * K → Most f (div f x y) (unlike s t) C

@@ -1,5 +1,5 @@
 -- A sum with falling coefficients of alternating sign, at a z from 0 to 1, has the first coefficient's sign and is no larger than it. No interval is computed. Assumes nothing.
-use mathlib.Core.Path.{_≡_, refl, ap, _∙_, subst}
+use mathlib.Core.Path.{_≡_, refl, sym, ap, _∙_, subst}
 use mathlib.Core.Logic.{_⊎_, inl, inr}
 use mathlib.Core.List.{List, [], _∷_}
 use Prim.Native.Nat.{ℕ, zero, suc, _+_, _*_, _%_, _^_, _<_}
@@ -46,8 +46,8 @@ falls n i (suc more) = ltb (grid binary64 1 (n i)) (overflow binary64) && ltb (g
 -- the signs alternate
 turned : (i : ℕ) → eqb (suc i % 2) 1 ≡ not (eqb (i % 2) 1)
 turned i = elim (parity i) [
-  | inl h ↦ ap (λ (k : ℕ). eqb k 1) (odd i h) ∙ ap (λ (k : ℕ). not (eqb k 1)) (sym' h)
-  | inr h ↦ ap (λ (k : ℕ). eqb k 1) (even i h) ∙ ap (λ (k : ℕ). not (eqb k 1)) (sym' h)
+  | inl h ↦ ap (λ (k : ℕ). eqb k 1) (odd i h) ∙ ap (λ (k : ℕ). not (eqb k 1)) (sym h)
+  | inr h ↦ ap (λ (k : ℕ). eqb k 1) (even i h) ∙ ap (λ (k : ℕ). not (eqb k 1)) (sym h)
 ]
   where
     parity : (i : ℕ) → (i % 2 ≡ 0) ⊎ (i % 2 ≡ 1)
@@ -58,9 +58,6 @@ turned i = elim (parity i) [
 
     even : (i : ℕ) → i % 2 ≡ 1 → suc i % 2 ≡ 0
     even i h = omega arith
-
-    sym' : {a b : ℕ} → a ≡ b → b ≡ a
-    sym' h = omega arith
 
 falling-by : (n : ℕ → ℕ) (i more : ℕ) → T (falls n i more) → Falling (eqb (i % 2) 1) (grid binary64 1 (n i)) (coefficients n i (suc more))
 unfolding falls coefficients

@@ -1,15 +1,16 @@
 -- Any finite value in 32 bits is at most the largest one, and something far smaller added to it does not overflow. Assumes nothing.
-use mathlib.Core.Path.{_≡_, refl, sym, ap, _∙_, subst}
+use mathlib.Core.Path.{_≡_, sym, ap, _∙_, subst}
 use mathlib.Core.Logic.{inl, inr}
 use Prim.Native.Nat.{ℕ, _-_, _*_, _^_, _≤_, _<_}
 use native.Mathlib.Nat.{le-trans, le-of-eq, lt-of-le-of-lt, le-of-suc-le-suc, mul-assoc, mul-le-mul, mul-le-mul-right, lt-of-mul-lt-mul-right}
 use native.Mathlib.Omega.{arith}
 use lib.Dec.{T, lit≤, lit<}
 use lib.Pow.{pow-add, pow-mono}
-use lib.Ieee.{Float, binary32, size, add, sub, neg, fits}
+use lib.Ieee.{Float, binary32, size, sub, fits}
 use lib.Ieee.Digits.{back}
 use lib.Ieee.Scale.{finite}
 use Rattle.ieee.proofs.Grid.{le-or-lt}
+use Rattle.bounds.proofs.Units.{sub-is}
 use Rattle.bounds.proofs.Held.{Held, fits-held}
 use Rattle.bounds.proofs.Size.{Mag, mag-max, mag-neg, mag-absorb}
 
@@ -38,7 +39,4 @@ mag-top x p h =
 -- as an azimuth less the start of a pair
 pub mag-sub-top : {x y : Float} → Mag binary32 x top32 → Mag binary32 y (2 ^ 100 * 2 ^ 149) → Mag binary32 (sub binary32 x y) top32
 unfolding size
-mag-sub-top {x} {y} h k = subst (λ (z : Float). Mag binary32 z top32) (sym (opened x y)) (mag-absorb h (mag-neg k) (lit≤ tt) (lit< tt))
-  where
-    opened : (x y : Float) → sub binary32 x y ≡ add binary32 x (neg y)
-    opened x y = unfold sub in refl
+mag-sub-top {x} {y} h k = subst (λ (z : Float). Mag binary32 z top32) (sym (sub-is binary32 x y)) (mag-absorb h (mag-neg k) (lit≤ tt) (lit< tt))

@@ -230,11 +230,11 @@ neg-val-of f (fin u m e) v = record { has = (ap not (v .has .0), v .has .1) }
 pub neg-val : {f : Format} {x : Float} {s : Bool} {X : ℕ} → Val f x s X → Val f (neg x) (not s) X
 neg-val {f} {x} = neg-val-of f x
 
+pub sub-is : (f : Format) (x y : Float) → sub f x y ≡ add f x (neg y)
+sub-is f x y = unfold sub in refl
+
 pub sub-rest : {f : Format} {x y : Float} {X Y : ℕ} → Val f x false X → Val f y false Y → Y ≤ X → sub f x y ≡ round f false (X - Y) (2 ^ low f)
-sub-rest {f} {x} {y} v w h = opened f x y ∙ add-rest v (neg-val w) h
-  where
-    opened : (f : Format) (x y : Float) → sub f x y ≡ add f x (neg y)
-    opened f x y = unfold sub in refl
+sub-rest {f} {x} {y} v w h = sub-is f x y ∙ add-rest v (neg-val w) h
 
 -- ---- the narrower format
 narrow-round-of : (x : Float) {s : Bool} {X : ℕ} → Val binary64 x s X → narrowOf x ≡ round binary32 s X (2 ^ low binary64)

@@ -1,5 +1,5 @@
 -- docs/CASES.md, "Values": what a word has to be, and when two values are the same. Assumes nothing.
-use Prim.Native.Nat.{ℕ, _+_, _^_}
+use Prim.Native.Nat.{ℕ}
 use mathlib.Core.Bool.{Bool, true, false, cond, not, _&&_, _||_}
 use lib.Dec.{ltb, eqb}
 use lib.Ieee.{Float, Format, isNan, toBits}

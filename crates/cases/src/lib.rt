@@ -2,6 +2,7 @@
 //
 // A line is a part of the buffer, and a cursor by value goes from word to word of it.
 pub mod lines;
+pub mod report;
 pub mod values;
 
 ghost use mathlib.Core.Path.{_≡_};
@@ -187,4 +188,28 @@ pub fn next_word(s: &[u8], c: Cursor) -> Step
         word,
         next: Cursor { at: e + 1 },
     }
+}
+
+// ---- what every replay asks of a line
+
+pub fn is_comment(line: &[u8]) -> bool {
+    if line.len() == 0 {
+        return false;
+    }
+    line[0] == b'#'
+}
+
+// Whether the word that ends at an index of the line is a name.
+pub fn is_named(line: &[u8], to: usize, name: &[u8]) -> bool {
+    if to > line.len() {
+        return false;
+    }
+    same(&line[..to], name)
+}
+
+// Whether no word is left.
+pub fn is_end(line: &[u8], c: Cursor) -> bool {
+    let step = next_word(line, c);
+    let word = step.word;
+    if let Word::End = word { true } else { false }
 }

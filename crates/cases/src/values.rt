@@ -156,3 +156,11 @@ pub fn agree(a: Value, b: Value) -> bool
         },
     }
 }
+
+// The bits of an argument, which is never written nan.
+pub fn bits_of(v: Value) -> u64 {
+    match v {
+        Value::Bits(b) => b,
+        Value::Nan => 0,
+    }
+}

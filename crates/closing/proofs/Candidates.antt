@@ -1,6 +1,6 @@
 -- Laws of the choice of a candidate: the code's three ways to go on are the cases of `better`. Assumes nothing.
 use Prim.Native.Nat.{ℕ, _+_, _<_}
-use mathlib.Core.Path.{_≡_, sym, ap, _∙_}
+use mathlib.Core.Path.{_≡_, refl, sym, ap, _∙_}
 use mathlib.Core.Bool.{Bool, true, false, not, _&&_}
 use mathlib.Core.List.{[], _∷_, _++_, foldl}
 use mathlib.Core.Option.{Option, none, some}
@@ -9,33 +9,37 @@ use lib.ListN.{getD, take}
 use lib.Seq.{take-suc}
 use lib.Ieee.{Float, binary64, sub, lt, le}
 use Rattle.lists.proofs.Collect.{foldl-snoc}
+use Rattle.lists.proofs.Tests.{cond-yes, cond-no}
 use Rattle.vector.specs.Vector.{Vector, Points}
-use Rattle.hull.specs.Triplets.{tiny}
+use Rattle.faces.specs.Faces.{tiny}
 use Rattle.closing.specs.Closing.{almost, greatest, passedOver, withPole, wins, better, candidates}
 use Rattle.closing.specs.Flat.{bestIn}
 use Rattle.closing.specs.declared.Best.{Best}
-use Rattle.closing.proofs.Choice.{pick-yes, pick-no, not-not}
 
 -- ---- a pole
 
 pub pole-there : (pts : Points) (c : Vector) → passedOver pts c ≡ true → withPole pts c ≡ pts
 unfolding withPole
-pole-there pts c e = pick-yes _ _ e
+pole-there pts c e = cond-yes _ _ e
 
 pub pole-new : (pts : Points) (c : Vector) → passedOver pts c ≡ false → withPole pts c ≡ pts ++ c ∷ []
 unfolding withPole
-pole-new pts c e = pick-no _ _ e
+pole-new pts c e = cond-no _ _ e
 
 -- ---- the better of two
+
+not-not : (t : Bool) → t ≡ not (not t)
+not-not true = refl
+not-not false = refl
 
 module _ (pts : Points) (c : Vector) where
   pub better-stays : (b : Option Vector) → not (passedOver pts c) && wins pts c b ≡ false → better pts b c ≡ b
   unfolding better
-  better-stays b e = pick-no _ _ e
+  better-stays b e = cond-no _ _ e
 
   pub better-takes : (b : Option Vector) → not (passedOver pts c) && wins pts c b ≡ true → better pts b c ≡ some c
   unfolding better
-  better-takes b e = pick-yes _ _ e
+  better-takes b e = cond-yes _ _ e
 
   module _ {g : Float} (n : g ≡ greatest pts c) where
     passed : (t : Bool) → le almost g ≡ t → passedOver pts c ≡ t

@@ -1,4 +1,3 @@
-pub mod Choice
 pub mod Points
 pub mod Candidates
 pub mod Stages

@@ -1,25 +1,25 @@
 -- The statements of specs/Meaning.antt. The candidate by one candidate more at a time, the stages by one point more at a time. Assumes nothing.
 use Prim.Native.Nat.{ℕ, zero, suc, _+_, _-_, _≤_}
 use mathlib.Core.Path.{_≡_, refl, sym, ap, subst, _∙_}
-use mathlib.Core.Bool.{Bool, true, false, not, _&&_, _||_}
+use mathlib.Core.Bool.{Bool, true, false, not, _&&_, _||_, true≢false}
 use mathlib.Core.List.{List, [], _∷_, _++_, foldl, append-assoc, append-nil}
 use mathlib.Core.Logic.{_⊎_, inl, inr, ⊎-elim}
 use mathlib.Core.Option.{Option, none, some}
 use native.Mathlib.Nat.{add-zero}
 use native.Mathlib.Omega.{arith}
+use borrow.Author.Tests.{not-true}
 use lib.Count.{trailingZeros}
 use lib.Ieee.{ofBits, ofFields, odd, units, round, size, span, climb, neg, sum, add, sub, mul, div}
 use lib.ListN.{length, length-append}
 use Rattle.lists.specs.Lists.{every, last}
 use Rattle.lists.proofs.Collect.{foldl-snoc}
-use Rattle.lists.proofs.Tests.{every-snoc}
-use Rattle.ieee.specs.Root.{sqrtOf, roundRoot, wholeRoot, rootBy, grow}
+use Rattle.lists.proofs.Tests.{or-false, both, and-both, every-snoc}
+use Rattle.root.specs.Root.{sqrtOf, roundRoot, wholeRoot, rootBy, grow}
 use Rattle.vector.specs.Vector.{Vector, Points}
 use Rattle.hull.specs.Triplets.{closed}
 use Rattle.ieee.specs.Values.{+0, 1·0}
 use Rattle.closing.specs.Closing.{−1, passedOver, wins, better, candidates, candidateOf, withPole, withPoles, stages, finalPoints, maxImaginary}
-use Rattle.closing.specs.Meaning.{Origins, Candidate, Extends, Chain, Stages, Imaginary}
-use Rattle.closing.proofs.Choice.{or-false, and-parts, or-parts, both}
+use Rattle.closing.specs.Meaning.{Origins, Chosen, Candidate, Extends, Chain, Stages, Behind, Imaginary}
 use Rattle.closing.proofs.Candidates.{pole-there, pole-new, better-stays, better-takes}
 use Rattle.closing.proofs.Stages.{after, closing-after, after-closed, after-none, after-more}
 
@@ -29,40 +29,32 @@ origins = record { there = refl; diagonal = refl }
 
 -- ---- the candidate
 
+or-parts : (a b : Bool) → not a && b ≡ false → a || not b ≡ true
+or-parts true b e = refl
+or-parts false true e = absurd (true≢false e)
+or-parts false false e = refl
+
 module _ (pts : Points) where
   -- the best of a list is the last that beats the best of those before it
-  record In (l : Points) (c : Vector) : Type 0 where
-    earlier : Points
-    later : Points
-    place : l ≡ earlier ++ c ∷ later
-    free : passedOver pts c ≡ false
-    beats : wins pts c (foldl (better pts) none earlier) ≡ true
-    unbeaten : every (λ d. passedOver pts d || not (wins pts d (some c))) later ≡ true
-
   record Best-of (l : Points) : Type 0 where
-    chosen : (c : Vector) → foldl (better pts) none l ≡ some c → In l c
+    chosen : (c : Vector) → foldl (better pts) none l ≡ some c → Chosen pts l c
     none-left : foldl (better pts) none l ≡ none → every (passedOver pts) l ≡ true
 
   module _ (l : Points) (d : Vector) where
-    takes : not (passedOver pts d) && wins pts d (foldl (better pts) none l) ≡ true → In (l ++ d ∷ []) d
+    takes : not (passedOver pts d) && wins pts d (foldl (better pts) none l) ≡ true → Chosen pts (l ++ d ∷ []) d
     unfolding every
-    takes e = record {
-      earlier = l;
-      later = [];
-      place = refl;
-      free = and-parts (passedOver pts d) (wins pts d (foldl (better pts) none l)) e .0;
-      beats = and-parts (passedOver pts d) (wins pts d (foldl (better pts) none l)) e .1;
-      unbeaten = refl;
-    }
+    takes e =
+        let p = both (not (passedOver pts d)) (wins pts d (foldl (better pts) none l)) e in
+        record { earlier = l; later = []; place = refl; free = not-true (passedOver pts d) (p .0); beats = p .1; unbeaten = refl }
 
-    keeps : (c : Vector) → In l c → not (passedOver pts d) && wins pts d (some c) ≡ false → In (l ++ d ∷ []) c
+    keeps : (c : Vector) → Chosen pts l c → not (passedOver pts d) && wins pts d (some c) ≡ false → Chosen pts (l ++ d ∷ []) c
     keeps c i e = record {
       earlier = i .earlier;
       later = i .later ++ d ∷ [];
       place = ap (λ (x : Points). x ++ d ∷ []) (i .place) ∙ append-assoc (i .earlier) (c ∷ i .later) (d ∷ []);
       free = i .free;
       beats = i .beats;
-      unbeaten = every-snoc (λ q. passedOver pts q || not (wins pts q (some c))) (i .later) d ∙ both (i .unbeaten) (or-parts (passedOver pts d) (wins pts d (some c)) e);
+      unbeaten = every-snoc (λ q. passedOver pts q || not (wins pts q (some c))) (i .later) d ∙ and-both (i .unbeaten) (or-parts (passedOver pts d) (wins pts d (some c)) e);
     }
 
     one-more : Best-of l → Best-of (l ++ d ∷ [])
@@ -77,7 +69,7 @@ module _ (pts : Points) where
             let f : foldl (better pts) none (l ++ d ∷ []) ≡ some d =
             foldl-snoc (better pts) none l d ∙ better-takes pts d (foldl (better pts) none l) g in
             record {
-              chosen = λ c h. let p : d ≡ c = cc in subst (In (l ++ d ∷ [])) p (takes g);
+              chosen = λ c h. let p : d ≡ c = cc in subst (Chosen pts (l ++ d ∷ [])) p (takes g);
               none-left = λ h. let z : _≡_ {A = ℕ} 0 1 = cc in absurd (omega arith);
             }
         by none e false g =
@@ -86,7 +78,7 @@ module _ (pts : Points) where
             let p : passedOver pts d || not (wins pts d none) ≡ true = or-parts (passedOver pts d) (wins pts d none) (ap (λ (x : Option Vector). not (passedOver pts d) && wins pts d x) (sym e) ∙ g) in
             record {
               chosen = λ c h. let z : _≡_ {A = ℕ} 0 1 = cc in absurd (omega arith);
-              none-left = λ h. every-snoc (passedOver pts) l d ∙ both (b .none-left e) (sym (or-false (passedOver pts d)) ∙ p);
+              none-left = λ h. every-snoc (passedOver pts) l d ∙ and-both (b .none-left e) (sym (or-false (passedOver pts d)) ∙ p);
             }
         by (some v) e false g =
             let f : foldl (better pts) none (l ++ d ∷ []) ≡ some v =
@@ -106,20 +98,9 @@ module _ (pts : Points) where
 
   pub candidate-meaning : Candidate pts
   unfolding candidateOf
-  candidate-meaning =
-      let b = all-more candidates [] nothing in
-      record {
-        chosen = λ c e. let i = b .chosen c e in record { earlier = i .earlier; later = i .later; place = i .place; free = i .free; beats = i .beats; unbeaten = i .unbeaten };
-        none-left = b .none-left;
-      }
+  candidate-meaning = let b = all-more candidates [] nothing in record { chosen = b .chosen; none-left = b .none-left }
 
 -- ---- the stages
-
--- q is real with at most n points behind
-record Behind (real : Points) (n : ℕ) (q : Points) : Type 0 where
-  points : Points
-  behind : q ≡ real ++ points
-  few : length points ≤ n
 
 behind-more : (real : Points) (n : ℕ) (q : Points) (c : Vector) → Behind real n q → Behind real (n + 1) (q ++ c ∷ [])
 behind-more real n q c b = record {

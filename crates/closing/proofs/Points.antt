@@ -1,5 +1,5 @@
 -- Laws of points in a flat array: the greatest product by one point more, points stored behind others, points in a longer array. Assumes nothing.
-use Prim.Native.Nat.{ℕ, zero, suc, _+_, _-_, _*_, _≤_, _<_}
+use Prim.Native.Nat.{ℕ, suc, _+_, _-_, _*_, _≤_, _<_}
 use mathlib.Core.Path.{_≡_, refl, sym, ap, _∙_}
 use mathlib.Core.Bool.{true}
 use mathlib.Core.List.{List, [], _∷_, _++_, map, foldl, append-assoc}
@@ -12,6 +12,7 @@ use Rattle.lists.specs.Lists.{from, range, part, filled}
 use Rattle.lists.proofs.Collect.{map-snoc, foldl-snoc}
 use Rattle.lists.proofs.Filled.{length-filled, set-filled-at}
 use Rattle.lists.proofs.Parts.{part-append, three-places}
+use Rattle.lists.proofs.Ranges.{same-places}
 use Rattle.ieee.specs.Values.{+0}
 use Rattle.ieee.specs.Order.{maxOf}
 use Rattle.vector.specs.Vector.{Vector, Points, dotOf, pointsIn}
@@ -34,16 +35,10 @@ module _ (flat : List Float) (c : Vector) where
 
 -- ---- points by the front of the array
 
-map-from-same : {A : Type 0} (f g : ℕ → A) (a n : ℕ) → ((i : ℕ) → i < a + n → f i ≡ g i) → map f (from a n) ≡ map g (from a n)
-unfolding from
-map-from-same f g a zero h = refl
-map-from-same {A} f g a (suc n) h =
-    ap (λ (x : A). x ∷ map f (from (suc a) n)) (h a (omega arith)) ∙ ap (λ (l : List A). g a ∷ l) (map-from-same f g (suc a) n (λ i m. h i (omega arith)))
-
 pub points-take : (n : ℕ) (flat : List Float) → n * 3 ≤ length flat → pointsIn n flat ≡ pointsIn n (take (n * 3) flat)
-unfolding pointsIn range
+unfolding pointsIn
 points-take n flat h =
-    map-from-same (part 3 flat) (part 3 (take (n * 3) flat)) 0 n
+    same-places (part 3 flat) (part 3 (take (n * 3) flat)) n
     (λ i m.
     let e : length (take (n * 3) flat) ≡ n * 3 = length-take-le (n * 3) flat h in
     ap (λ (l : List Float). part 3 l i) (sym (take-append-drop (n * 3) flat)) ∙ part-append 3 (take (n * 3) flat) i (drop (n * 3) flat) (omega arith))

@@ -9,6 +9,7 @@ use lib.Dec.{ltb}
 use lib.Ieee.{Float}
 use lib.ListN.{length}
 use Rattle.lists.specs.Lists.{last, any}
+use Rattle.lists.proofs.Tests.{or-assoc, or-false}
 use Rattle.vector.specs.Vector.{Vector, Points, pointsIn}
 use Rattle.vector.proofs.Points.{length-points}
 use Rattle.hull.specs.Triplets.{tripletsOf, closed}
@@ -18,7 +19,6 @@ use Rattle.closing.specs.Closing.{candidateOf, onward, closing, withPole
 use Rattle.closing.specs.Flat.{bestIn, closedIn}
 use Rattle.closing.specs.declared.Best.{Best}
 use Rattle.closing.specs.declared.Closed.{Closed}
-use Rattle.closing.proofs.Choice.{or-assoc, or-false}
 
 -- ---- the lists after the first
 
@@ -123,7 +123,7 @@ module _ {real : Points} {n : ℕ} {flat : List Float} {m : ℕ} {h : Hull} {ove
       end = sym (ap (λ (t : List Points). last t (pointsIn m flat)) next) ∙ s .end;
       full =
           ap (λ (t : Bool). over || t || any over80 (after (14 - (m + 1 - n)) (pointsIn (m + 1) new))) (hull-over (pointsIn (m + 1) new) o)
-          ∙ sym (or-assoc over (over80 (pointsIn (m + 1) new)) (any over80 (after (14 - (m + 1 - n)) (pointsIn (m + 1) new))))
+          ∙ or-assoc over (over80 (pointsIn (m + 1) new)) (any over80 (after (14 - (m + 1 - n)) (pointsIn (m + 1) new)))
           ∙ sym (ap (λ (t : List Points). over || any over80 t) next)
           ∙ s .full;
     }

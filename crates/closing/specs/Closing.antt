@@ -10,7 +10,8 @@ use Rattle.lists.specs.Lists.{last, any}
 use Rattle.ieee.specs.Values.{+0, 1·0}
 use Rattle.ieee.specs.Order.{maxOf}
 use Rattle.vector.specs.Vector.{Vector, Points, dotOf}
-use Rattle.hull.specs.Triplets.{tiny, tripletsOf, closed}
+use Rattle.faces.specs.Faces.{tiny}
+use Rattle.hull.specs.Triplets.{tripletsOf, closed}
 
 -- ---- poles and candidates
 

@@ -1,5 +1,5 @@
 -- What the definitions of closing amount to: statements, proved in proofs/Meaning.antt. Document 01, "Layout", the paragraph "Hull". Assumes nothing.
-use Prim.Native.Nat.{_+_, _≤_}
+use Prim.Native.Nat.{ℕ, _+_, _≤_}
 use mathlib.Core.Path.{_≡_}
 use mathlib.Core.Bool.{true, false, _||_, not}
 use mathlib.Core.List.{List, [], _∷_, _++_, foldl}
@@ -9,7 +9,7 @@ use lib.ListN.{length}
 use lib.Ieee.{binary64, sub, div, ofBits}
 use Rattle.lists.specs.Lists.{every}
 use Rattle.ieee.specs.Values.{1·0}
-use Rattle.ieee.specs.Root.{sqrtOf}
+use Rattle.root.specs.Root.{sqrtOf}
 use Rattle.vector.specs.Vector.{Vector, Points, shortest}
 use Rattle.hull.specs.Triplets.{closed}
 use Rattle.closing.specs.Closing.{almost, h, passedOver, candidates, wins, better, candidateOf, withPoles, stages, finalPoints, maxImaginary}
@@ -24,17 +24,17 @@ pub record Origins : Type 0 where
 
 -- ---- the candidate
 
--- c is a candidate that is not passed over; it beats the best of those before it, and none after it that is not passed over beats it
-pub record Chosen (pts : Points) (c : Vector) : Type 0 where
+-- c of the list l is not passed over; it beats the best of those before it, and none after it that is not passed over beats it
+pub record Chosen (pts l : Points) (c : Vector) : Type 0 where
   pub earlier : Points
   pub later : Points
-  pub place : candidates ≡ earlier ++ c ∷ later
+  pub place : l ≡ earlier ++ c ∷ later
   pub free : passedOver pts c ≡ false
   pub beats : wins pts c (foldl (better pts) none earlier) ≡ true
   pub unbeaten : every (λ d. passedOver pts d || not (wins pts d (some c))) later ≡ true
 
 pub record Candidate (pts : Points) : Type 0 where
-  pub chosen : (c : Vector) → candidateOf pts ≡ some c → Chosen pts c
+  pub chosen : (c : Vector) → candidateOf pts ≡ some c → Chosen pts candidates c
   -- there is none only where every candidate is passed over
   pub none-left : candidateOf pts ≡ none → every (passedOver pts) candidates ≡ true
 
@@ -59,8 +59,12 @@ pub record Stages (real : Points) : Type 0 where
   pub chain : Chain Extends (withPoles real) later
   pub end : (closed (finalPoints real) ≡ true) ⊎ ((length (finalPoints real) ≡ length real + maxImaginary) ⊎ (candidateOf (finalPoints real) ≡ none))
 
--- the imaginary points are those behind the real ones, at most fourteen
-pub record Imaginary (real : Points) : Type 0 where
+-- q is the real points with at most n behind them
+pub record Behind (real : Points) (n : ℕ) (q : Points) : Type 0 where
   pub points : Points
-  pub behind : finalPoints real ≡ real ++ points
-  pub few : length points ≤ maxImaginary
+  pub behind : q ≡ real ++ points
+  pub few : length points ≤ n
+
+-- the imaginary points, at most fourteen, stand behind the real ones
+abbrev pub Imaginary : Points → Type 0
+Imaginary real = Behind real maxImaginary (finalPoints real)

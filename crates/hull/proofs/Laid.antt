@@ -1,5 +1,5 @@
 -- Laws of verdicts that are laid in the arrays: what one verdict more changes. A kept triplet is stored behind the others, up to 80. Assumes nothing.
-use Prim.Native.Nat.{ℕ, zero, suc, _+_, _-_, _*_, _≤_, _<_}
+use Prim.Native.Nat.{ℕ, zero, suc, _+_, _*_, _≤_, _<_}
 use mathlib.Core.Path.{_≡_, refl, sym, ap, _∙_}
 use mathlib.Core.Bool.{Bool, true, false, _&&_, _||_, not}
 use mathlib.Core.List.{List, [], _∷_, _++_, map, map-append, flatMap, append-assoc, append-nil}
@@ -55,7 +55,7 @@ sets-numbers l t h = rw (← length-numbers l, numbers-snoc) (sets-filled 240 0 
 
 -- ---- the inverses
 
-pub length-entries : (l : List Triplet) (e : ℕ) → length l ≤ 80 → length (entriesOf l e) ≡ 80
+length-entries : (l : List Triplet) (e : ℕ) → length l ≤ 80 → length (entriesOf l e) ≡ 80
 unfolding entriesOf
 length-entries l e h =
     let f : Triplet → Float = λ t. getD (t .inv) e nan in
@@ -93,7 +93,7 @@ module _ (l : List Triplet) (t : Triplet) (h : length l < 80) where
       rw (← i, set-append-right, set-append-left (entriesOf l n) b (length l) (getD (t .inv) n nan) (omega (arith, length-entries l n (omega arith))), set-entries n) refl in
       rw (← add-one n, range-snoc n, foldl-snoc, inverses-with n (omega arith), p, q, flatMap-snoc (entriesOf more) (range n) n) (sym (append-assoc a (entriesOf more n) b))
 
-  pub inverses-more : inversesWith (inversesOf l) (length l) (t .inv) 9 ≡ inversesOf more
+  inverses-more : inversesWith (inversesOf l) (length l) (t .inv) 9 ≡ inversesOf more
   unfolding flatMap inversesOf
   inverses-more = inverses-with 9 (omega arith) ∙ rw (between-none 9 9 (omega arith)) (append-nil _)
 

@@ -1,8 +1,5 @@
-pub mod Reading
-pub mod Heights
-pub mod Fans
+pub mod Rows
 pub mod Laid
 pub mod Verdicts
 pub mod Turns
 pub mod Meaning
-pub mod Places

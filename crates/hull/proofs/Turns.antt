@@ -1,58 +1,82 @@
 -- Laws of one turn of the third loop, by what the code learns of the triple: what the arrays hold is what the definition gathers up to the next triple. Assumes nothing.
-use Prim.Native.Nat.{ℕ, _+_, _≤_, _<_}
+use Prim.Native.Nat.{ℕ, _+_, _*_, _≤_, _<_}
 use mathlib.Core.Path.{_≡_, sym, ap, _∙_}
-use mathlib.Core.Bool.{true, false}
+use mathlib.Core.Bool.{Bool, true, false}
 use mathlib.Core.List.{List, [], _∷_, _++_}
 use native.Mathlib.Omega.{arith}
 use lib.Ieee.{Float, lt}
+use lib.Seq.{sets}
 use Rattle.lists.specs.Lists.{part}
 use Rattle.ieee.specs.Values.{abs}
 use Rattle.vector.specs.Vector.{pointsIn}
 use Rattle.vector.proofs.Points.{point-at}
-use Rattle.hull.specs.Triplets.{tiny, point, Verdict, skip, open-hull, keep, determinantOf, inverseOf, verdict}
-use Rattle.hull.specs.Steps.{faceOf, fanTest, inverseBy, putOf}
+use Rattle.faces.specs.Faces.{tiny, point}
+use Rattle.faces.specs.Steps.{faceOf}
+use Rattle.faces.specs.declared.Face.{Face}
+use Rattle.faces.specs.declared.Face.the-variants.{Skip, Open, Outward}
+use Rattle.fan.specs.Steps.{fanTest}
+use Rattle.hull.specs.Triplets.{Verdict, skip, open-hull, keep, determinantOf, inverseOf, verdict}
+use Rattle.hull.specs.Steps.{inverseBy, inversesWith, putOf}
 use Rattle.hull.specs.declared.Hull.{Hull}
-use Rattle.hull.specs.declared.Face.the-variants.{Skip, Open, Outward}
-use Rattle.hull.proofs.Laid.{laidOf, laid-skip, laid-open, laid-keep}
+use Rattle.hull.proofs.Laid.{laidOf, laid-skip, laid-open, laid-keep, put-full, put-more}
 use Rattle.hull.proofs.Verdicts.{at-third, third-more, tripletAt, verdict-skip, verdict-open, verdict-out, verdict-small, verdict-keep}
 
-module _ (n : ℕ) (flat : List Float) (i j k : ℕ) (a : i + 1 ≤ j) (b : j + 1 ≤ k) (c : k < n) where
-  abbrev laid-at : ℕ → Hull
-  laid-at k = laidOf n (at-third (verdict (pointsIn n flat)) n i j k)
+-- the third loop stands at k, and h is what the triples passed so far lay
+abbrev pub Third : ℕ → List Float → ℕ → ℕ → ℕ → Hull → Type 0
+Third n flat i j k h = (i + 1 ≤ j) × (j + 1 ≤ k) × (k ≤ n) × (n ≤ 54) × (h ≡ laidOf n (at-third (verdict (pointsIn n flat)) n i j k))
 
+module _ (n : ℕ) (flat : List Float) (i j k : ℕ) (h : Hull) (inv : Third n flat i j k h) (below : k < n) where
   abbrev det : Float
   det = determinantOf (part 3 flat i) (part 3 flat j) (part 3 flat k)
 
-  again : (v : Verdict) → verdict (pointsIn n flat) i j k ≡ v → laidOf n (at-third (verdict (pointsIn n flat)) n i j k ++ v ∷ []) ≡ laid-at (k + 1)
-  again v e = ap (laidOf n) (rw (← e) (sym (third-more (verdict (pointsIn n flat)) n i j k b)))
+  again : (v : Verdict) → verdict (pointsIn n flat) i j k ≡ v
+      → laidOf n (at-third (verdict (pointsIn n flat)) n i j k ++ v ∷ []) ≡ laidOf n (at-third (verdict (pointsIn n flat)) n i j (k + 1))
+  again v e = ap (laidOf n) (rw (← e) (sym (third-more (verdict (pointsIn n flat)) n i j k (inv .1))))
+
+  next : {g : Hull} → g ≡ laidOf n (at-third (verdict (pointsIn n flat)) n i j (k + 1)) → Third n flat i j (k + 1) g
+  next e = (inv .0, omega arith, omega arith, inv .3, e)
 
   same-det : determinantOf (point (pointsIn n flat) i) (point (pointsIn n flat) j) (point (pointsIn n flat) k) ≡ det
-  same-det = rw (point-at n flat i (omega arith), point-at n flat j (omega arith), point-at n flat k c)
+  same-det = rw (point-at n flat i (omega arith), point-at n flat j (omega arith), point-at n flat k below)
 
   same-inverse : inverseOf (point (pointsIn n flat) i) (point (pointsIn n flat) j) (point (pointsIn n flat) k) ≡ inverseBy (part 3 flat i) (part 3 flat j) (part 3 flat k) det
   unfolding inverseOf inverseBy
-  same-inverse = rw (point-at n flat i (omega arith), point-at n flat j (omega arith), point-at n flat k c)
+  same-inverse = rw (point-at n flat i (omega arith), point-at n flat j (omega arith), point-at n flat k below)
 
-  module _ (h : Hull) (e : h ≡ laid-at k) where
-    skipped : verdict (pointsIn n flat) i j k ≡ skip → h ≡ laid-at (k + 1)
-    skipped v = e ∙ laid-skip n _ ∙ again skip v
+  skipped : verdict (pointsIn n flat) i j k ≡ skip → Third n flat i j (k + 1) h
+  skipped v = next (inv .4 ∙ laid-skip n _ ∙ again skip v)
 
-    pub turn-skip : faceOf (pointsIn n flat) i j k ≡ Skip → h ≡ laid-at (k + 1)
-    turn-skip f = skipped (verdict-skip (pointsIn n flat) i j k f)
+  -- f is what the face tests say of the triple
+  module _ {f : Face} (ef : f ≡ faceOf (pointsIn n flat) i j k) where
+    pub turn-skip : f ≡ Skip → Third n flat i j (k + 1) h
+    turn-skip e = skipped (verdict-skip (pointsIn n flat) i j k (sym ef ∙ e))
 
-    pub turn-open : faceOf (pointsIn n flat) i j k ≡ Open
-        → _≡_ {A = Hull} (record { idx = h .idx; inv = h .inv; count = h .count; over = h .over; enclosed = false }) (laid-at (k + 1))
-    turn-open f = laid-open n _ h e ∙ again open-hull (verdict-open (pointsIn n flat) i j k f)
+    pub turn-open : f ≡ Open → Third n flat i j (k + 1) (record { idx = h .idx; inv = h .inv; count = h .count; over = h .over; enclosed = false })
+    turn-open e = next (laid-open n _ h (inv .4) ∙ again open-hull (verdict-open (pointsIn n flat) i j k (sym ef ∙ e)))
 
-    module _ (p q r d : Float) (f : faceOf (pointsIn n flat) i j k ≡ Outward p q r d) where
-      pub turn-out : fanTest (pointsIn n flat) i j k (p ∷ q ∷ r ∷ []) d ≡ false → h ≡ laid-at (k + 1)
-      turn-out g = skipped (verdict-out (pointsIn n flat) i j k p q r d f g)
+    -- b is whether the triple is a part of the fan
+    module _ {p q r d : Float} (eo : f ≡ Outward p q r d) {b : Bool} (eb : b ≡ fanTest (pointsIn n flat) i j k (p ∷ q ∷ r ∷ []) d) where
+      pub turn-out : b ≡ false → Third n flat i j (k + 1) h
+      turn-out e = skipped (verdict-out (pointsIn n flat) i j k p q r d (sym ef ∙ eo) (sym eb ∙ e))
 
-      module _ (g : fanTest (pointsIn n flat) i j k (p ∷ q ∷ r ∷ []) d ≡ true) where
-        pub turn-small : lt (abs det) tiny ≡ true → h ≡ laid-at (k + 1)
-        turn-small s = skipped (verdict-small (pointsIn n flat) i j k p q r d f g (rw same-det s))
+      -- c and s are the determinant and its size
+      module _ (et : b ≡ true) {c s : Float} (ec : c ≡ det) (es : s ≡ abs c) where
+        pub turn-small : lt s tiny ≡ true → Third n flat i j (k + 1) h
+        turn-small e = skipped (verdict-small (pointsIn n flat) i j k p q r d (sym ef ∙ eo) (sym eb ∙ et) (rw (same-det, ← ec, ← es) e))
 
-        pub turn-keep : lt (abs det) tiny ≡ false → putOf h i j k (inverseBy (part 3 flat i) (part 3 flat j) (part 3 flat k) det) ≡ laid-at (k + 1)
-        turn-keep s =
-            rw (e, ← same-inverse)
-            (laid-keep n _ (tripletAt (pointsIn n flat) i j k) ∙ again (keep (tripletAt (pointsIn n flat) i j k)) (verdict-keep (pointsIn n flat) i j k p q r d f g (rw same-det s)))
+        module _ (el : lt s tiny ≡ false) where
+          kept : putOf h i j k (inverseBy (part 3 flat i) (part 3 flat j) (part 3 flat k) c) ≡ laidOf n (at-third (verdict (pointsIn n flat)) n i j (k + 1))
+          kept =
+              rw (ec, inv .4, ← same-inverse)
+              (laid-keep n _ (tripletAt (pointsIn n flat) i j k)
+              ∙ again (keep (tripletAt (pointsIn n flat) i j k)) (verdict-keep (pointsIn n flat) i j k p q r d (sym ef ∙ eo) (sym eb ∙ et) (rw (same-det, ← ec, ← es) el)))
+
+          pub turn-full : 80 ≤ h .count → Third n flat i j (k + 1) (record { idx = h .idx; inv = h .inv; count = h .count; over = true; enclosed = h .enclosed })
+          turn-full u = next (put-full h i j k _ u ∙ kept)
+
+          -- m is the inverse; a and v are the arrays with the triplet
+          pub turn-keep : {m v : List Float} {a : List ℕ} → h .count < 80 → m ≡ inverseBy (part 3 flat i) (part 3 flat j) (part 3 flat k) c
+              → a ≡ sets (h .idx) (h .count * 3) (i ∷ j ∷ k ∷ [])
+              → v ≡ inversesWith (h .inv) (h .count) m 9
+              → Third n flat i j (k + 1) (record { idx = a; inv = v; count = h .count + 1; over = h .over; enclosed = h .enclosed })
+          turn-keep u em ea ev = next (rw (ea, ev, em) (put-more h i j k _ u ∙ kept))

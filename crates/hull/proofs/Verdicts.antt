@@ -1,5 +1,5 @@
 -- Laws of the verdict on a triple, by what the face tests, the fan and the determinant say; and of the verdicts that the three loops gather. Assumes nothing.
-use Prim.Native.Nat.{ℕ, suc, _+_, _≤_, _<_}
+use Prim.Native.Nat.{ℕ, suc, _+_, _≤_}
 use mathlib.Core.Path.{_≡_, refl, sym, ap, _∙_}
 use mathlib.Core.Bool.{Bool, true, false, _||_, not, cond}
 use mathlib.Core.List.{List, [], _∷_, _++_, map, flatMap, append-assoc, append-nil}
@@ -7,34 +7,18 @@ use native.Mathlib.Numerals.{add-one}
 use native.Mathlib.Omega.{arith}
 use lib.Ieee.{Float, binary64, div, lt, neg}
 use lib.ListN.{length}
-use Rattle.lists.specs.Lists.{range, between, part}
+use Rattle.lists.specs.Lists.{range, between}
 use Rattle.lists.proofs.Ranges.{range-none, range-snoc, between-none, between-snoc}
 use Rattle.lists.proofs.Collect.{map-snoc, flatMap-snoc}
 use Rattle.ieee.specs.Values.{abs}
-use Rattle.vector.specs.Vector.{Vector, Points, x, y, z, pointsIn, dotOf, overOf, negatedOf, lengthOf}
-use Rattle.vector.proofs.Points.{point-at, length-points}
-use Rattle.hull.specs.Triplets.{tiny, leastDistance, point, Triplet, Verdict, skip, open-hull, keep, others, rawNormal, planeThrough, allBelow, allAbove, outward, determinantOf, inverseOf, verdictBy, verdict, verdicts}
-use Rattle.hull.specs.Steps.{planeOf, sidesOf, facing, turnedBy, faceOf, fanTest}
-use Rattle.hull.specs.declared.Face.{Face}
-use Rattle.hull.specs.declared.Face.the-variants.{Skip, Open, Outward}
-
--- ---- the face tests on points of a flat array
-
-module _ (n : ℕ) (flat : List Float) (i j k : ℕ) (hi : i < n) (hj : j < n) (hk : k < n) where
-  abbrev raw : Vector
-  raw = rawNormal (part 3 flat i) (part 3 flat j) (part 3 flat k)
-
-  abbrev unit : Vector
-  unit = overOf raw (lengthOf raw)
-
-  pub face-thin : lt (lengthOf raw) tiny ≡ true → faceOf (pointsIn n flat) i j k ≡ Skip
-  unfolding faceOf
-  face-thin e = rw (point-at n flat i hi, point-at n flat j hj, point-at n flat k hk, e) refl
-
-  pub face-placed : lt (lengthOf raw) tiny ≡ false
-      → faceOf (pointsIn n flat) i j k ≡ turnedBy (sidesOf (pointsIn n flat) unit (dotOf unit (part 3 flat i)) (others n i j k)) unit (dotOf unit (part 3 flat i))
-  unfolding faceOf planeThrough
-  face-placed e = rw (point-at n flat i hi, point-at n flat j hj, point-at n flat k hk, length-points n flat, e) refl
+use Rattle.vector.specs.Vector.{Points, x, y, z, pointsIn, dotOf, overOf, negatedOf, lengthOf}
+use Rattle.vector.proofs.Points.{length-points}
+use Rattle.faces.specs.Faces.{tiny, leastDistance, point, others, rawNormal, planeThrough, allBelow, allAbove, outward}
+use Rattle.faces.specs.Steps.{planeOf, sidesOf, facing, turnedBy, faceOf}
+use Rattle.faces.specs.declared.Face.{Face}
+use Rattle.faces.specs.declared.Face.the-variants.{Skip, Open, Outward}
+use Rattle.fan.specs.Steps.{fanTest}
+use Rattle.hull.specs.Triplets.{Triplet, Verdict, skip, open-hull, keep, determinantOf, inverseOf, verdictBy, verdict, verdicts}
 
 -- ---- the verdict by its tests
 

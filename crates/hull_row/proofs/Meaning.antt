@@ -1,103 +1,107 @@
--- The meaning of the choice: what holds of the triplets passed holds again with one more, above the chosen one or not. Assumes nothing.
-use Prim.Native.Nat.{zero, suc}
+-- The meaning of the choice of a triplet, by that of the greatest number. Assumes nothing.
+use Prim.Native.Nat.{ℕ, zero, suc, _<_}
 use mathlib.Core.Path.{_≡_, refl, sym, ap, _∙_, subst}
-use mathlib.Core.Bool.{Bool, true, false, _||_, not, cond}
-use mathlib.Core.List.{List, [], _∷_, _++_, map, foldl, append-assoc, append-nil}
-use mathlib.Core.Option.{Option, none, some}
+use mathlib.Core.Bool.{Bool, true, _||_, _&&_, not}
+use mathlib.Core.List.{List, [], _∷_, _++_, map}
+use mathlib.Core.Logic.{⊎-elim}
+use mathlib.Core.Option.{none, some}
 use native.Mathlib.Nat.{not-suc-le-zero, le-of-suc-le-suc}
-use lib.Ieee.{Float, inf, isNan, lt}
+use native.Mathlib.Omega.{arith}
+use lib.ListN.{length, getD, take, length-map, List·getD-eq-default}
+use lib.Ieee.{Float, nan, inf, isNan, lt}
 use Rattle.lists.specs.Lists.{every}
-use Rattle.lists.proofs.Tests.{every-snoc}
 use Rattle.vector.specs.Vector.{Vector}
 use Rattle.hull.specs.Triplets.{Triplet}
-use Rattle.panner.proofs.Bounds.{every-more}
-use Rattle.hull_row.specs.HullRow.{Aimed, aimed, better, bestOf}
-use Rattle.hull_row.specs.Meaning.{leastGain, Chosen, BestChosen, NoneAbove, NoneChosen, GainsAreProducts}
-use Rattle.hull_row.proofs.FloatOrder.{lt-self, lt-over, not-above}
+use Rattle.greatest.specs.Greatest.{firstGreatest}
+use Rattle.greatest.specs.Meaning as greatest
+use Rattle.greatest.proofs.Meaning.{first-greatest-chosen}
+use Rattle.hull_row.specs.HullRow.{Aimed, aimed, leastGain, bestOf}
+use Rattle.hull_row.specs.Meaning.{Chosen, BestChosen, NoneChosen, GainsAreProducts}
 
-is-false : (b : Bool) → not b ≡ true → b ≡ false
-is-false true e = cc
-is-false false e = refl
+-- ---- lists
 
-is-not : (b : Bool) → b ≡ false → not b ≡ true
-is-not b e = rw e refl
+every-map : {A B : Type 0} (f : B → Bool) (g : A → B) (l : List A) → every f (map g l) ≡ every (λ a. f (g a)) l
+unfolding every
+every-map f g [] = refl
+every-map f g (a ∷ l) = ap (λ (b : Bool). f (g a) && b) (every-map f g l)
+
+-- ---- the chosen triplet
 
 module _ (s : Vector) where
-  -- what is known of the triplets passed
-  abbrev Passed : List Triplet → Option Aimed → Type 0
-  Passed l none = NoneAbove s l
-  Passed l (some b) = Chosen s l b
+  -- what stands around the triplet at a place
+  record Around (tris : List Triplet) (i : ℕ) (b : Aimed) : Type 0 where
+    pub before : List Triplet
+    pub here : Triplet
+    pub after : List Triplet
+    pub stands : tris ≡ before ++ here ∷ after
+    pub is : b ≡ aimed s here
+    pub number : getD (map (leastGain s) tris) i nan ≡ b .least
+    pub ahead : take i (map (leastGain s) tris) ≡ map (leastGain s) before
 
-  -- a triplet above g, where none of those before is
-  first-above : (l : List Triplet) (t : Triplet) (g : Float) → every (λ u. not (lt g (leastGain s u))) l ≡ true → lt g (leastGain s t) ≡ true
-      → Chosen s (l ++ t ∷ []) (aimed s t)
-  first-above l t g e k =
-      let x = leastGain s t in
+  around : (tris : List Triplet) (i : ℕ) (b : Aimed) → getD (map (λ t. some (aimed s t)) tris) i none ≡ some b → Around tris i b
+  around [] i b e = let z : _≡_ {A = ℕ} 0 1 = cc in absurd (omega arith)
+  around (t ∷ l) zero b e = let k : aimed s t ≡ b = cc in record { before = []; here = t; after = l; stands = refl; is = sym k; number = ap (λ (a : Aimed). a .least) k; ahead = refl }
+  around (t ∷ l) (suc i) b e =
+      let r = around l i b e in
       record {
-        earlier = l;
-        triplet = t;
-        later = [];
-        stands = refl;
-        is = refl;
-        none-above =
-            every-snoc (λ u. not (lt x (leastGain s u))) l t
-            ∙ rw (
-              every-more {f = λ u. not (lt g (leastGain s u))} {g = λ u. not (lt x (leastGain s u))}
-                  (λ u p. is-not _ (not-above g (leastGain s u) x (is-false _ p) k)) l e,
-              is-not _ (lt-self x),
-            )
-            refl;
-        above-earlier =
-            every-more {f = λ u. not (lt g (leastGain s u))} {g = λ u. isNan (leastGain s u) || lt (leastGain s u) x}
-            (λ u p. lt-over g (leastGain s u) x (is-false _ p) k) l e;
+        before = t ∷ r .before;
+        here = r .here;
+        after = r .after;
+        stands = ap (λ (k : List Triplet). t ∷ k) (r .stands);
+        is = r .is;
+        number = r .number;
+        ahead = ap (λ (k : List Float). leastGain s t ∷ k) (r .ahead);
       }
 
-  -- a triplet that is not above the chosen one
-  more-none : (l : List Triplet) (t : Triplet) (g : Float) → every (λ u. not (lt g (leastGain s u))) l ≡ true → lt g (leastGain s t) ≡ false
-      → every (λ u. not (lt g (leastGain s u))) (l ++ t ∷ []) ≡ true
-  more-none l t g e k = every-snoc (λ u. not (lt g (leastGain s u))) l t ∙ rw (e, is-not _ k) refl
+  module _ (tris : List Triplet) where
+    abbrev leasts : List Float
+    leasts = map (leastGain s) tris
 
-  more-chosen : (l : List Triplet) (t : Triplet) (b : Aimed) → Chosen s l b → lt (b .least) (leastGain s t) ≡ false → Chosen s (l ++ t ∷ []) b
-  more-chosen l t b c k =
-      record {
-        earlier = c .earlier;
-        triplet = c .triplet;
-        later = c .later ++ t ∷ [];
-        stands = ap (λ (m : List Triplet). m ++ t ∷ []) (c .stands) ∙ append-assoc (c .earlier) (c .triplet ∷ c .later) (t ∷ []);
-        is = c .is;
-        none-above = more-none l t (b .least) (c .none-above) k;
-        above-earlier = c .above-earlier;
-      }
+    abbrev place : ℕ
+    place = firstGreatest (length tris) leasts
 
-  passed-none : (l : List Triplet) (t : Triplet) → NoneAbove s l → (q : Bool) → lt (inf true) (leastGain s t) ≡ q → Passed (l ++ t ∷ []) (cond q (some (aimed s t)) none)
-  passed-none l t e true k = first-above l t (inf true) e k
-  passed-none l t e false k = more-none l t (inf true) e k
+    from-chosen : (b : Aimed) → Around tris place b → greatest.Chosen leasts place → Chosen s tris b
+    from-chosen b r c =
+        record {
+          earlier = r .before;
+          triplet = r .here;
+          later = r .after;
+          stands = r .stands;
+          is = r .is;
+          none-above =
+              sym (every-map (λ x. not (lt (b .least) x)) (leastGain s) tris)
+              ∙ subst (λ (y : Float). every (λ x. not (lt y x)) leasts ≡ true) (r .number) (c .none-above);
+          above-earlier =
+              sym (every-map (λ x. isNan x || lt x (b .least)) (leastGain s) (r .before))
+              ∙ ap (every (λ x. isNan x || lt x (b .least))) (sym (r .ahead))
+              ∙ subst (λ (y : Float). every (λ x. isNan x || lt x y) (take place leasts) ≡ true) (r .number) (c .above-earlier);
+        }
 
-  passed-some : (l : List Triplet) (t : Triplet) (b : Aimed) → Chosen s l b → (q : Bool) → lt (b .least) (leastGain s t) ≡ q
-      → Passed (l ++ t ∷ []) (cond q (some (aimed s t)) (some b))
-  passed-some l t b c true k = first-above l t (b .least) (c .none-above) k
-  passed-some l t b c false k = more-chosen l t b c k
+    -- none is chosen: the place is past the triplets
+    past : (k : ℕ) → k ≡ length tris → getD (map (λ t. some (aimed s t)) tris) k none ≡ none
+    past k e = List·getD-eq-default (map (λ t. some (aimed s t)) tris) none {n = k} (omega (arith, length-map tris (λ t. some (aimed s t))))
 
-  passed-more : (l : List Triplet) (t : Triplet) (o : Option Aimed) → Passed l o → Passed (l ++ t ∷ []) (better o (aimed s t))
-  unfolding better
-  passed-more l t none e = passed-none l t e (lt (inf true) (leastGain s t)) refl
-  passed-more l t (some b) c = passed-some l t b c (lt (b .least) (leastGain s t)) refl
-
-  passed-all : (l m : List Triplet) (o : Option Aimed) → Passed l o → Passed (l ++ m) (foldl better o (map (aimed s) m))
-  passed-all l [] o p = subst (λ (k : List Triplet). Passed k o) (sym (append-nil l)) p
-  passed-all l (t ∷ m) o p =
-      subst (λ (k : List Triplet). Passed k (foldl better (better o (aimed s t)) (map (aimed s) m))) (append-assoc l (t ∷ []) m)
-      (passed-all (l ++ t ∷ []) m (better o (aimed s t)) (passed-more l t o p))
-
-  passed : (tris : List Triplet) → Passed tris (bestOf s tris)
-  unfolding bestOf every
-  passed tris = passed-all [] tris none refl
+    within : (k : ℕ) → k < length tris → getD (map (λ t. some (aimed s t)) tris) k none ≡ none → ⊥
+    within k h e = inside tris k h e
+      where
+        inside : (l : List Triplet) (k : ℕ) → k < length l → getD (map (λ t. some (aimed s t)) l) k none ≡ none → ⊥
+        inside [] k h e = not-suc-le-zero h
+        inside (t ∷ l) zero h e = let z : _≡_ {A = ℕ} 0 1 = cc in omega arith
+        inside (t ∷ l) (suc k) h e = inside l k (le-of-suc-le-suc h) e
 
 pub best-chosen-is-greatest : BestChosen
-best-chosen-is-greatest s tris b e = subst (Passed s tris) e (passed s tris)
+unfolding bestOf
+best-chosen-is-greatest s tris b e =
+    ⊎-elim (λ c. from-chosen s tris b (around s tris (place s tris) b e) c)
+    (λ n. let f = past s tris (place s tris) (n .is) in let z : _≡_ {A = ℕ} 0 1 = cc in absurd (omega arith))
+    (first-greatest-chosen (length tris) (leasts s tris))
 
 pub none-chosen-none-above : NoneChosen
-none-chosen-none-above s tris e = subst (Passed s tris) e (passed s tris)
+unfolding bestOf
+none-chosen-none-above s tris e =
+    ⊎-elim (λ c. absurd (within s tris (place s tris) (omega (arith, c .within, length-map tris (leastGain s))) e))
+    (λ n. sym (every-map (λ x. not (lt (inf true) x)) (leastGain s) tris) ∙ n .none-high)
+    (first-greatest-chosen (length tris) (leasts s tris))
 
 pub gains-are-products : GainsAreProducts
 unfolding aimed

@@ -1,32 +1,29 @@
 -- Laws of the loops over places: an entry of an inverse, a list filled from the front, scaled from the front, summed from the front. Each goes place by place. Assumes nothing.
-use Prim.Native.Nat.{ℕ, zero, suc, _+_, _-_, _*_, _≤_, _<_, min}
-use mathlib.Core.Bool.{Bool, true, false, _&&_, _||_, not}
-use mathlib.Core.Path.{_≡_, refl, sym, ap, _∙_, subst}
+use Prim.Native.Nat.{ℕ, zero, suc, _+_, _*_, _≤_, _<_}
+use mathlib.Core.Bool.{Bool, true, false, _||_}
+use mathlib.Core.Path.{_≡_, refl, sym, ap, ap₂, _∙_, subst}
 use mathlib.Core.List.{List, [], _∷_, _++_, map, append-nil}
 use native.Mathlib.Nat.{not-suc-le-zero, le-of-suc-le-suc, add-zero}
 use native.Mathlib.Numerals.{add-one}
 use native.Mathlib.Omega.{arith}
-use lib.ListN.{length, getD, set, take, drop, replicate, length-map, drop-of-length-le, List·getD-eq-default}
-use lib.Seq.{drop-cons, take-suc, take-all, length-take-le, set-at, getD-at, getD-take, append-snoc, set-out}
-use lib.Dec.{T, eqb}
+use lib.ListN.{length, getD, set, take, drop, length-map, drop-of-length-le, List·getD-eq-default}
+use lib.Seq.{drop-cons, take-suc, take-suc-set, take-all, length-take-le, set-at, getD-at, getD-take, append-snoc, set-out}
+use lib.Dec.{T}
 use lib.Ieee.{Float, nan, binary32, add, mul, div, lt, ne}
 use lib.Ieee.Compare.{differs-from-itself}
-use borrow.Author.Tests.{lt-ltb, le-ltb}
-use Rattle.lists.specs.Lists.{range, filled, isEmpty, part}
+use Rattle.lists.specs.Lists.{range, part}
 use Rattle.lists.proofs.Parts.{getD-part}
-use Rattle.lists.proofs.Filled.{filled-none, set-filled-at, take-filled}
-use Rattle.lists.proofs.Tests.{empty-length}
-use Rattle.lists.proofs.Ranges.{range-none, length-map-range, getD-map-range, map-range-snoc}
+use Rattle.lists.proofs.Ranges.{range-none, getD-map-range, map-range-snoc}
 use Rattle.lists.proofs.Collect.{map-snoc, foldl-snoc}
 use Rattle.ieee.specs.Values.{+0, 1·0}
-use Rattle.ieee.specs.Root.{sqrtOf}
-use Rattle.ieee.specs.Order.{maxOf, minOf, squareOf}
+use Rattle.root.specs.Root.{sqrtOf}
+use Rattle.ieee.specs.Order.{minOf, squareOf}
 use Rattle.ieee.proofs.Order.{min-first-nan, min-second-nan, min-second, min-first}
 use Rattle.vector.specs.Vector.{Vector, dotIn}
-use Rattle.planar_row.specs.PlanarRow.{addAt, count32, leastPower}
+use Rattle.planar_row.specs.PlanarRow.{leastPower}
+use Rattle.greatest.specs.Greatest.{firstGreatest}
 use Rattle.hull_row.specs.HullRow.{scaled}
-use Rattle.hull_row.specs.Steps.{inverseAt, gainAt, productsOf, firstGreatest, nearestIn, toReal, toImag, addEach, sharedBy, sharedAt, sharedOut, powerOf, timesOf}
-use Rattle.hull_row.proofs.Folds.{fold-none, fold-more}
+use Rattle.hull_row.specs.Steps.{inverseAt, gainAt, gainsAt, leastAt, productsOf, nearestIn, powerOf, timesOf}
 
 -- ---- a row of an inverse, three entries 80 apart
 
@@ -40,9 +37,7 @@ entry inv t r j at hr hj e =
     ∙ ap (λ (i : ℕ). getD inv i nan) p
 
 pub gain-told : (s : Vector) (inv : List Float) (t r : ℕ) → r < 3
-    → add binary32
-    (add binary32 (mul binary32 (getD inv (r * 240 + t) nan) (getD s 0 nan)) (mul binary32 (getD inv (r * 240 + t + 80) nan) (getD s 1 nan)))
-    (mul binary32 (getD inv (r * 240 + t + 160) nan) (getD s 2 nan)) ≡ gainAt s inv t r
+    → dotIn binary32 (getD inv (r * 240 + t) nan ∷ getD inv (r * 240 + t + 80) nan ∷ getD inv (r * 240 + t + 160) nan ∷ []) s ≡ gainAt s inv t r
 unfolding gainAt dotIn
 gain-told s inv t r h =
     rw (
@@ -52,27 +47,32 @@ gain-told s inv t r h =
     )
     refl
 
+-- the three rows
+module _ (s : Vector) (inv : List Float) (t : ℕ) (g₀ g₁ g₂ : Float) (e₀ : g₀ ≡ gainAt s inv t 0) (e₁ : g₁ ≡ gainAt s inv t 1) (e₂ : g₂ ≡ gainAt s inv t 2) where
+  pub gains-told : g₀ ∷ g₁ ∷ g₂ ∷ [] ≡ gainsAt s inv t
+  unfolding gainsAt
+  gains-told = rw (e₀, e₁, e₂) refl
+
+  pub least-told : (a b : Float) → a ≡ minOf g₀ g₁ → b ≡ minOf a g₂ → b ≡ leastAt s inv t
+  unfolding leastAt
+  least-told a b p q = q ∙ ap₂ minOf (p ∙ ap₂ minOf e₀ e₁) e₂
+
 -- a point of a flat array, three numbers a point
 pub product-told : (s : Vector) (dirs : List Float) (i : ℕ)
-    → add binary32
-    (add binary32 (mul binary32 (getD dirs (i * 3) nan) (getD s 0 nan)) (mul binary32 (getD dirs (i * 3 + 1) nan) (getD s 1 nan)))
-    (mul binary32 (getD dirs (i * 3 + 2) nan) (getD s 2 nan)) ≡ dotIn binary32 (part 3 dirs i) s
+    → dotIn binary32 (getD dirs (i * 3) nan ∷ getD dirs (i * 3 + 1) nan ∷ getD dirs (i * 3 + 2) nan ∷ []) s ≡ dotIn binary32 (part 3 dirs i) s
 unfolding dotIn
 product-told s dirs i =
     let e : getD (part 3 dirs i) 0 nan ≡ getD dirs (i * 3) nan = getD-part 3 dirs i 0 nan (omega arith) ∙ ap (λ (k : ℕ). getD dirs k nan) (add-zero (i * 3)) in
     rw (e, getD-part 3 dirs i 1 nan (omega arith), getD-part 3 dirs i 2 nan (omega arith)) refl
 
--- ---- an array of n places that takes the numbers f 0, f 1, .. one after the other
+-- ---- an array that takes the numbers f 0, f 1, .. one after the other
 
-module _ {A : Type 0} (n : ℕ) (z : A) (f : ℕ → A) where
-  pub mapped-none : replicate n z ≡ filled n z (map f (range 0))
-  mapped-none = sym (ap (λ (l : List ℕ). filled n z (map f l)) range-none ∙ filled-none n z)
+module _ {A : Type 0} (f : ℕ → A) (m : List A) where
+  pub mapped-none : take 0 m ≡ map f (range 0)
+  mapped-none = sym (ap (map f) range-none)
 
-  pub mapped-more : (t : ℕ) {m : List A} {v : A} → t < n → m ≡ filled n z (map f (range t)) → v ≡ f t → set m t v ≡ filled n z (map f (range (t + 1)))
-  mapped-more t {m} {v} h e g =
-      let k : length (map f (range t)) ≡ t = length-map-range f t in
-      set-filled-at n z (map f (range t)) v (omega arith) e (sym k)
-      ∙ ap (filled n z) (ap (λ (x : A). map f (range t) ++ x ∷ []) g ∙ sym (map-range-snoc f t))
+  pub mapped-more : (t : ℕ) (v : A) → t < length m → take t m ≡ map f (range t) → v ≡ f t → take (t + 1) (set m t v) ≡ map f (range (t + 1))
+  mapped-more t v h e g = rw (add-one, take-suc-set m t v h, e, g, ← add-one) (sym (map-range-snoc f t))
 
 -- ---- scaled from the front
 
@@ -119,38 +119,6 @@ pub power-more : (l : List Float) (i : ℕ) → i < length l
 unfolding powerOf squareOf
 power-more l i h =
     rw (add-one, take-suc l i nan h) (sym (foldl-snoc (λ p g. add binary32 p (mul binary32 g g)) +0 (take i l) (getD l i nan)))
-
--- ---- gains added in the places of slots
-
-pub each-none : (w : Float) (row : List Float) (slots : List ℕ) → row ≡ addEach w row (take 0 slots)
-unfolding addEach
-each-none w row slots = refl
-
-pub each-more : (w : Float) (row : List Float) (slots : List ℕ) (j : ℕ) → j < length slots
-    → addAt (addEach w row (take j slots)) (getD slots j 0) w ≡ addEach w row (take (j + 1) slots)
-unfolding addEach
-each-more w row slots j h =
-    rw (add-one, take-suc slots j 0 h) (sym (foldl-snoc (λ r o. addAt r o w) row (take j slots) (getD slots j 0)))
-
--- ---- a gain to a real point or to an imaginary one
-
-module _ (slots : List ℕ) (n p : ℕ) (row : List Float) (g : Float) where
-  pub real-yes : n ≤ length slots → p < n → addAt row (getD slots p 0) (maxOf g +0) ≡ toReal (take n slots) row p g
-  unfolding toReal
-  real-yes h k = rw (length-take-le n slots h, lt-ltb p n k, getD-take n slots p 0 k) refl
-
-  pub real-no : n ≤ length slots → n ≤ p → row ≡ toReal (take n slots) row p g
-  unfolding toReal
-  real-no h k = rw (length-take-le n slots h, le-ltb p n k) refl
-
-module _ (n p : ℕ) (imag : List Float) (g : Float) where
-  pub imag-no : p < n → imag ≡ toImag n imag p g
-  unfolding toImag
-  imag-no k = rw (lt-ltb p n k) refl
-
-  pub imag-yes : n ≤ p → addAt imag (min (p - n) 13) (maxOf g +0) ≡ toImag n imag p g
-  unfolding toImag
-  imag-yes k = rw (le-ltb p n k) refl
 
 -- ---- the lesser of two numbers, by one test
 
@@ -201,37 +169,6 @@ module _ (s : Vector) (slots : List ℕ) (dirs : List Float) (n i : ℕ) (row : 
   nearest-none k =
       let p : length (take n slots) ≤ i = omega (arith, length-take-le n slots h) in
       sym (at-place ∙ ap (λ (o : ℕ). set row o 1·0) (List·getD-eq-default (take n slots) (length row) {n = i} p) ∙ set-out row (length row) 1·0 (omega arith))
-
--- what an array holds in its first places
-pub front-filled : (k : ℕ) (l m : List Float) (n : ℕ) → m ≡ filled k +0 l → length l ≡ n → take n m ≡ l
-front-filled k l m n e g = rw (e, ← g) (take-filled k +0 l)
-
--- ---- an imaginary gain shared out
-
-module _ (nbrs : List ℕ) (n : ℕ) (g : Float) (row : List Float) (h : n ≤ length nbrs) where
-  test-told : (lt +0 g && not (isEmpty (take n nbrs))) ≡ (lt +0 g && not (eqb n 0))
-  test-told = ap (λ (b : Bool). lt +0 g && not b) (empty-length (take n nbrs) ∙ ap (λ (k : ℕ). eqb k 0) (length-take-le n nbrs h))
-
-  pub shared-yes : (w : Float) → w ≡ div binary32 g (sqrtOf binary32 (count32 n)) → (lt +0 g && not (eqb n 0)) ≡ true
-      → addEach w row (take n nbrs) ≡ sharedBy (take n nbrs) g row
-  unfolding sharedBy
-  shared-yes w e t = rw (test-told ∙ t, length-take-le n nbrs h, e) refl
-
-  pub shared-no : (lt +0 g && not (eqb n 0)) ≡ false → row ≡ sharedBy (take n nbrs) g row
-  unfolding sharedBy
-  shared-no t = rw (test-told ∙ t) refl
-
-module _ (counts nbrs : List ℕ) (imag row : List Float) where
-  pub shared-none : row ≡ sharedOut counts nbrs imag 0 row
-  unfolding sharedOut
-  shared-none = sym (fold-none (sharedAt counts nbrs imag) row)
-
-  pub shared-more : (k : ℕ) → sharedBy (take (getD counts k 0) (take (k * 40 + 40 - k * 40) (drop (k * 40) nbrs))) (getD imag k nan) (sharedOut counts nbrs imag k row)
-      ≡ sharedOut counts nbrs imag (k + 1) row
-  unfolding sharedOut sharedAt part
-  shared-more k =
-      let e : k * 40 + 40 - k * 40 ≡ 40 = omega arith in
-      rw e (sym (fold-more (sharedAt counts nbrs imag) row k))
 
 -- ---- to power 1
 

@@ -6,7 +6,6 @@ use mathlib.Core.List.{List, [], map, foldl}
 use native.Mathlib.Omega.{arith}
 use lib.Dec.{ltb}
 use lib.ListN.{length, getD, take, replicate, length-replicate}
-use lib.Seq.{length-take-le}
 use lib.Ieee.{Float, nan}
 use Rattle.lists.specs.Lists.{range}
 use Rattle.lists.proofs.Ranges.{length-map-range, getD-map-range}
@@ -17,9 +16,11 @@ use Rattle.panner.specs.Shape.{HullShape}
 use Rattle.panner.specs.declared.Kind.the-variants.{Hull}
 use Rattle.panner.specs.declared.VbapPanner.{VbapPanner}
 use Rattle.panner.specs.Panner.{tripletAt, neighboursAt, hullIn, shapeIn}
-use Rattle.hull_row.specs.HullRow.{maxImaginary, aimed, nearestRow, Filling, give, filling, shared, scaled, tripletRow, rowBy, hullRow}
-use Rattle.hull_row.specs.Steps.{inverseAt, gainAt, gainsAt, leastsOf, firstGreatest, nearestIn, toReal, toImag, realPoints, imagPoints, addEach, sharedBy, sharedAt, sharedOut}
-use Rattle.hull_row.proofs.Folds.{fold-alike}
+use Rattle.greatest.specs.Greatest.{firstGreatest}
+use Rattle.filling.specs.Filling.{maxImaginary, toReal, toImag, realPoints, imagPoints, addEach, sharedBy, sharedAt, sharedOut, placed}
+use Rattle.filling.proofs.Folds.{fold-alike}
+use Rattle.hull_row.specs.HullRow.{aimed, nearestRow, Filling, give, filling, shared, scaled, tripletRow, rowBy, hullRow}
+use Rattle.hull_row.specs.Steps.{inverseAt, gainAt, gainsAt, leastsOf, nearestIn}
 use Rattle.hull_row.proofs.Choice.{chosenAt, chosen-yes, chosen-no, best-chosen, nearest-found}
 
 -- ---- the gains of three points
@@ -90,42 +91,38 @@ module _ (v : VbapPanner) where
         ∙ rw (nearest-found dir (v .«pt_dir») (v .«num_real»), length-replicate n +0) refl)
 
     -- of a triplet with its gains
-    by-triplet : (t : Triplet) (g : List Float) → v .«num_imag» ≤ 14 → v .«num_real» ≤ length (v .«pt_out»)
+    by-triplet : (t : Triplet) (g : List Float) → v .«num_imag» ≤ 14
         → tripletRow n shapeOf t g
         ≡ scaled
-        (sharedOut (v .«num_nbrs») (v .«imag_nbrs») (imagSums (v .«num_real») t g) (v .«num_imag»)
+        (sharedOut (v .«num_nbrs») (v .«imag_nbrs») (imagSums (length (take (v .«num_real») (v .«pt_out»))) t g) (v .«num_imag»)
         (realRow (take (v .«num_real») (v .«pt_out»)) (replicate n +0) t g))
     unfolding tripletRow hullIn shapeIn
-    by-triplet t g hi hr =
+    by-triplet t g hi =
         let o = take (v .«num_real») (v .«pt_out») in
-        let row = realRow o (replicate n +0) t g in
         ap (λ (f : Filling). scaled (foldl (shared shapeOf (f .imag)) (f .row) (range (min (length (shapeOf .imag)) maxImaginary)))) (filling-told shapeOf n t g)
-        ∙ ap scaled (shared-told (imagSums (length o) t g) row hi)
-        ∙ ap (λ (m : ℕ). scaled (sharedOut (v .«num_nbrs») (v .«imag_nbrs») (imagSums m t g) (v .«num_imag») row)) (length-take-le (v .«num_real») (v .«pt_out») hr)
+        ∙ ap scaled (shared-told (imagSums (length o) t g) (realRow o (replicate n +0) t g) hi)
 
-    pub row-triplet : chosenPlace < v .«num_tris» → v .«num_imag» ≤ 14 → v .«num_real» ≤ length (v .«pt_out»)
-        → scaled
-        (sharedOut (v .«num_nbrs») (v .«imag_nbrs») (imagPoints (v .«num_real») (v .idx) chosenPlace (gainsAt dir (v .inv) chosenPlace)) (v .«num_imag»)
-        (realPoints (take (v .«num_real») (v .«pt_out»)) (v .idx) chosenPlace (gainsAt dir (v .inv) chosenPlace) (replicate n +0)))
+    pub row-triplet : chosenPlace < v .«num_tris» → v .«num_imag» ≤ 14
+        → scaled (placed (take (v .«num_real») (v .«pt_out»)) (v .idx) (v .«num_nbrs») (v .«imag_nbrs») (v .«num_imag») chosenPlace (gainsAt dir (v .inv) chosenPlace) n)
         ≡ hullRow n az el shapeOf
-    unfolding aimed gainsAt gainAt inverseAt tripletAt imagPoints realPoints
-    row-triplet h hi hr =
+    unfolding aimed gainsAt gainAt inverseAt tripletAt placed imagPoints realPoints
+    row-triplet h hi =
         sym
         (row-of ∙ ap (rowBy n dir shapeOf) (chosen-yes dir v (v .«num_tris») chosenPlace h)
-        ∙ by-triplet (tripletAt v chosenPlace) (gainsAt dir (v .inv) chosenPlace) hi hr)
+        ∙ by-triplet (tripletAt v chosenPlace) (gainsAt dir (v .inv) chosenPlace) hi)
 
     -- the same, step after step
-    module _ (d : Vector) (t : ℕ) (r₀ : List Float) (ed : d ≡ dir) (et : t ≡ firstGreatest (v .«num_tris») (leastsOf d (v .inv) (v .«num_tris»))) (e₀ : r₀ ≡ replicate n +0) where
+    module _ (d : Vector) (t : ℕ) (ed : d ≡ dir) (et : t ≡ firstGreatest (v .«num_tris») (leastsOf d (v .inv) (v .«num_tris»))) where
       place : t ≡ chosenPlace
       place = et ∙ ap (λ (s : Vector). firstGreatest (v .«num_tris») (leastsOf s (v .inv) (v .«num_tris»))) ed
 
-      pub nearest-made : (r : List Float) → v .«num_tris» ≤ t → r ≡ nearestIn d (v .«pt_out») (v .«pt_dir») (v .«num_real») r₀ → r ≡ hullRow n az el shapeOf
+      pub nearest-made : (r : List Float) → v .«num_tris» ≤ t → r ≡ nearestIn d (v .«pt_out») (v .«pt_dir») (v .«num_real») (replicate n +0) → r ≡ hullRow n az el shapeOf
       nearest-made r h e = let h' : v .«num_tris» ≤ chosenPlace = subst (λ (k : ℕ). v .«num_tris» ≤ k) place h in cc (row-nearest h')
 
-      pub triplet-made : (g imag r₁ r₂ r₃ : List Float) → t < v .«num_tris» → v .«num_imag» ≤ 14 → v .«num_real» ≤ length (v .«pt_out») → g ≡ gainsAt d (v .inv) t
-          → r₁ ≡ realPoints (take (v .«num_real») (v .«pt_out»)) (v .idx) t g r₀ → imag ≡ imagPoints (v .«num_real») (v .idx) t g
-          → r₂ ≡ sharedOut (v .«num_nbrs») (v .«imag_nbrs») imag (v .«num_imag») r₁ → r₃ ≡ scaled r₂ → r₃ ≡ hullRow n az el shapeOf
-      triplet-made g imag r₁ r₂ r₃ h hi hr eg e₁ ei e₂ e₃ =
+      pub triplet-made : (g q r : List Float) → t < v .«num_tris» → v .«num_imag» ≤ 14 → g ≡ gainsAt d (v .inv) t
+          → q ≡ placed (take (v .«num_real») (v .«pt_out»)) (v .idx) (v .«num_nbrs») (v .«imag_nbrs») (v .«num_imag») t g n → r ≡ scaled q
+          → r ≡ hullRow n az el shapeOf
+      triplet-made g q r h hi eg eq er =
           let h' : chosenPlace < v .«num_tris» = subst (λ (k : ℕ). k < v .«num_tris») place h in
           let k = place in
-          cc (row-triplet h' hi hr)
+          cc (row-triplet h' hi)

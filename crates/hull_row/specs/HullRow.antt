@@ -1,24 +1,22 @@
 -- Document 01, "A row" (Hull); source lines 513 to 581 (the hull branch of gains). P's gains are the direction times the inverse of the speakers' matrix.
 -- A row is a gain for each of n places, n = min(outputs, buffer length). `set` beyond the end of a list changes nothing: the source's `if slot < n`. Assumes nothing.
 use Prim.Native.Nat.{ℕ, _-_, min}
-use mathlib.Core.Bool.{true, _&&_, not, cond}
+use mathlib.Core.Bool.{_&&_, not, cond}
 use mathlib.Core.List.{List, [], _∷_, map, foldl}
 use mathlib.Core.Option.{Option, none, some}
 use lib.Dec.{ltb}
 use lib.ListN.{length, getD, set, replicate}
-use lib.Ieee.{Float, nan, inf, binary32, add, mul, div, lt}
+use lib.Ieee.{Float, nan, binary32, add, mul, div, lt}
 use Rattle.lists.specs.Lists.{range, isEmpty, part}
 use Rattle.ieee.specs.Values.{+0, 1·0}
 use Rattle.ieee.specs.Order.{maxOf, minOf, squareOf}
-use Rattle.ieee.specs.Root.{sqrtOf}
+use Rattle.root.specs.Root.{sqrtOf}
 use Rattle.vector.specs.Vector.{Vector, Points, dotIn, dirVecOf}
 use Rattle.hull.specs.Triplets.{Triplet}
 use Rattle.panner.specs.Shape.{HullShape}
 use Rattle.planar_row.specs.PlanarRow.{addAt, count32, leastPower}
-
--- MAX_IMAGINARY. Origin: vbap.rs line 60 and document 01.
-abbrev pub maxImaginary : ℕ
-maxImaginary = 14
+use Rattle.greatest.specs.Greatest.{firstGreatest}
+use Rattle.filling.specs.Filling.{maxImaginary}
 
 -- ---- hull: the triplet whose smallest gain is greatest, the earlier of equals
 
@@ -36,26 +34,16 @@ aimed s t =
     let g2 = dotIn binary32 (part 3 (t .inv) 2) s in
     record { triplet = t; gains = g0 ∷ g1 ∷ g2 ∷ []; least = minOf (minOf g0 g1) g2 }
 
--- above every earlier one: above −∞ where there is none
-unfoldable pub better : Option Aimed → Aimed → Option Aimed
-better none a = cond (lt (inf true) (a .least)) (some a) none
-better (some b) a = cond (lt (b .least) (a .least)) (some a) (some b)
+abbrev pub leastGain : Vector → Triplet → Float
+leastGain s t = aimed s t .least
 
+-- none where no smallest gain is above −∞
 unfoldable pub bestOf : Vector → List Triplet → Option Aimed
-bestOf s tris = foldl better none (map (aimed s) tris)
+bestOf s tris = getD (map (λ t. some (aimed s t)) tris) (firstGreatest (length tris) (map (leastGain s) tris)) none
 
 -- no triplet: the nearest speaker, the earlier of equals, the first where no product is above −∞
-pub record Near : Type 0 where
-  pub number : ℕ
-  pub product : Float
-
-unfoldable pub nearer : Vector → Points → Near → ℕ → Near
-nearer s dirs b i =
-    let v = dotIn binary32 (getD dirs i []) s in
-    cond (lt (b .product) v) (record { number = i; product = v }) b
-
 unfoldable pub nearestPoint : Vector → Points → ℕ
-nearestPoint s dirs = foldl (nearer s dirs) (record { number = 0; product = inf true }) (range (length dirs)) .number
+nearestPoint s dirs = firstGreatest 0 (map (λ p. dotIn binary32 p s) dirs)
 
 -- 1 in its slot; where there is no point at all its slot is none of the n
 unfoldable pub nearestRow : ℕ → Vector → HullShape → List Float

@@ -1,19 +1,15 @@
--- Document 01, "A row" (Hull: the triplet whose smallest gain is greatest, the earlier of equals), said of `bestOf` without its order of work; proved in proofs/Meaning.antt. Assumes nothing.
+-- Document 01, "A row" (Hull: the triplet whose smallest gain is greatest, the earlier of equals), said of `bestOf`; proved in proofs/Meaning.antt. Assumes nothing.
 use Prim.Native.Nat.{ℕ, _<_}
 use mathlib.Core.Path.{_≡_}
 use mathlib.Core.Bool.{true, _||_, not}
 use mathlib.Core.List.{List, _∷_, _++_}
 use mathlib.Core.Option.{none, some}
 use lib.ListN.{getD}
-use lib.Ieee.{Float, nan, inf, isNan, binary32, lt}
+use lib.Ieee.{nan, inf, isNan, binary32, lt}
 use Rattle.lists.specs.Lists.{every, part}
 use Rattle.vector.specs.Vector.{Vector, dotIn}
 use Rattle.hull.specs.Triplets.{Triplet}
-use Rattle.hull_row.specs.HullRow.{Aimed, aimed, bestOf}
-
--- a triplet's least gain
-abbrev pub leastGain : Vector → Triplet → Float
-leastGain s t = aimed s t .least
+use Rattle.hull_row.specs.HullRow.{Aimed, aimed, leastGain, bestOf}
 
 -- no triplet's least gain is above the chosen one's, and every earlier one's is below it or a NaN
 pub record Chosen (s : Vector) (tris : List Triplet) (b : Aimed) : Type 0 where

@@ -5,26 +5,8 @@ use lib.IntN.{pos}
 use lib.Ieee.{nan, inf, fin, binary32, binary64, ofBits, isNan, eq, lt, add, mul, rem}
 use Rattle.ieee.specs.Values.{+0, 2·0}
 use Rattle.ieee.specs.Narrow.{narrowOf}
-use Rattle.ieee.specs.Root.{sqrtOf}
 use Rattle.ieee.specs.Order.{maxOf, clampOf, squareOf, powi4Of}
 use Rattle.ieee.specs.Remainder.{remEuclidOf}
-
--- "√2 in 32 bits is hexadecimal 3FB504F3"
-root-of-2-in-32-bits : sqrtOf binary32 2·0 ≡ ofBits binary32 0x3fb5_04f3
-unfolding sqrtOf ofBits
-root-of-2-in-32-bits = refl
-
-root-of-2-in-64-bits : sqrtOf binary64 2·0 ≡ ofBits binary64 0x3ff6_a09e_667f_3bcd
-unfolding sqrtOf ofBits
-root-of-2-in-64-bits = refl
-
-root-of-the-smallest : sqrtOf binary64 (ofBits binary64 1) ≡ ofBits binary64 0x1e60_0000_0000_0000
-unfolding sqrtOf ofBits
-root-of-the-smallest = refl
-
-root-of-minus-zero : sqrtOf binary32 (ofBits binary32 0x8000_0000) ≡ ofBits binary32 0x8000_0000
-unfolding sqrtOf ofBits
-root-of-minus-zero = refl
 
 -- "16,777,217 narrows to 16,777,216; 16,777,219 to 16,777,220": each is half way, and the even one is taken (16,777,220 is 4b800002)
 narrow-16777217 : narrowOf (fin false 16777217 (pos 0)) ≡ ofBits binary32 0x4b80_0000

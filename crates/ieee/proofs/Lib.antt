@@ -1,4 +1,3 @@
-pub mod Candidate
 pub mod Examples
 pub mod Grid
 pub mod Laws
@@ -6,7 +5,5 @@ pub mod Meaning
 pub mod Order
 pub mod Read
 pub mod Remainder
-pub mod Root
 pub mod Rounded
-pub mod Sqrt
 pub mod Values

@@ -1,6 +1,5 @@
 pub mod Values
 pub mod Narrow
-pub mod Root
 pub mod Order
 pub mod Remainder
 pub mod Meaning

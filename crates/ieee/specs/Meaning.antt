@@ -1,4 +1,4 @@
--- Document 01, "Number work": "rounded once to nearest, ties to even", and "narrowing, whole number to float and square root are as I says, stated over whole numbers".
+-- Document 01, "Number work": "rounded once to nearest, ties to even", and "narrowing, whole number to float and square root are as I says, stated over whole numbers" (the square root: crate root).
 -- What the definitions mean, over exact whole numbers (IEEE 754-2019, 4.3.1 and 5.4.1). Each statement is proved in proofs/Meaning.antt: `NarrowNearest` by `narrow-nearest`, and so on. Assumes nothing.
 use mathlib.Core.Path.{_≡_}
 use Prim.Native.Nat.{ℕ, _+_, _-_, _*_, _%_, _^_, _≤_, _<_}
@@ -9,7 +9,6 @@ use lib.Ieee.{Float, inf, fin, Format, binary32, prec, emax, low, up, down, fits
 use lib.Ieee.Exact.{HasValue}
 use Rattle.ieee.specs.Values.{signBit, isFinite}
 use Rattle.ieee.specs.Narrow.{narrowOf}
-use Rattle.ieee.specs.Root.{sqrtOf}
 
 -- x is finite, has the sign s, and is R times the format's smallest value, 2 ^ -low (low is 149 and 1074). Every finite value of the format is such a whole number.
 abbrev pub InSmallest : Format → Bool → Float → ℕ → Type 0
@@ -50,15 +49,3 @@ NarrowSign = (x : Float) → signBit (narrowOf x) ≡ signBit x
 
 abbrev pub WholeNearest : Type 0
 WholeNearest = (f : Format) (n : ℕ) → Rounded f false n 1 (ofInt f (pos n))
-
--- ---- r is the root of a value, rounded the same way. The exact number of smallest values is the root of n, and is seldom whole:
--- it is no nearer to Y than to R by how its double compares with R + Y, and n * 4 with the square of that.
-pub record RootRounded (f : Format) (n : ℕ) (r : Float) : Type 0 where
-  pub held : T (fits f r)
-  pub found : (R : ℕ) × InSmallest f false r R
-  pub near : (R Y : ℕ) (y : Float) → InSmallest f false r R → T (fits f y) → InSmallest f false y Y → (R < Y → n * 4 ≤ (R + Y) * (R + Y)) × (Y < R → (R + Y) * (R + Y) ≤ n * 4)
-  pub even : (R Y : ℕ) (y : Float) → InSmallest f false r R → T (fits f y) → InSmallest f false y Y → (R ≡ Y → ⊥) → n * 4 ≡ (R + Y) * (R + Y) → toBits f r % 2 ≡ 0
-
--- x is X smallest values, above zero: so its root is the root of X * 2 ^ low smallest values. NaN, zeros, infinities and what is below zero are in the definition.
-abbrev pub SqrtNearest : Type 0
-SqrtNearest = (f : Format) (x : Float) (X : ℕ) → T (fits f x) → InSmallest f false x X → 0 < X → RootRounded f (X * 2 ^ low f) (sqrtOf f x)

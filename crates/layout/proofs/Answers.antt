@@ -1,27 +1,24 @@
 -- The answer of `new`, case by case; what is accepted fits the record, and no answer is malformed. Assumes nothing.
-use Prim.Native.Nat.{ℕ, zero, suc, _/_, _%_, _≤_, _<_}
+use Prim.Native.Nat.{ℕ, _%_, _≤_, _<_}
 use mathlib.Core.Path.{_≡_, refl, sym, ap, _∙_}
 use mathlib.Core.Bool.{Bool, true, false, not, cond}
 use mathlib.Core.List.{List, [], _∷_}
-use native.Mathlib.Nat.{not-suc-le-zero}
 use native.Mathlib.Omega.{arith}
 use borrow.Author.Tests.{eqb-true, eq-eqb, ne-eqb, lt-ltb, le-ltb, ltb-false}
 use lib.Dec.{eqb, ltb}
 use lib.Ieee.{Float}
 use lib.ListN.{length, getD}
 use Rattle.lists.specs.Lists.{every}
-use Rattle.vector.specs.Speakers.{Speaker, slotsOf, dirsOf}
+use Rattle.vector.specs.Speakers.{Speaker, slotsOf}
 use Rattle.planar.specs.Planar.{pairsOf}
-use Rattle.closing.specs.Closing.{overfull}
-use Rattle.panner.specs.Shape.{Shape, silent, mono, planar, hull, Layout, imaginaryIn}
+use Rattle.panner.specs.Shape.{silent, mono, planar, Layout, imaginaryIn}
 use Rattle.panner.specs.Panner.{laid, noPanner, layoutIn}
 use Rattle.panner.specs.declared.VbapPanner.{VbapPanner}
 use Rattle.panner.specs.Malformed.{usedSlots, usedPoints, malformedOf}
-use Rattle.panner.specs.Meaning.{LayoutFits}
 use Rattle.panner.proofs.Reading.{read-back}
 use Rattle.panner.proofs.WellFormed.{well-formed}
-use Rattle.layout.specs.Layout.{outputsOf, active, level, buildHullOf, shapeOf, layoutOf, tooManyTriplets, newRefusal, pannerOf, newOf}
-use Rattle.layout.specs.Answers.{accepted, refusedBy, builtOf, hullBuiltOf}
+use Rattle.layout.specs.Layout.{outputsOf, active, level, shapeOf, layoutOf, tooManyTriplets, newRefusal, pannerOf, newOf}
+use Rattle.layout.specs.Answers.{accepted, refusedBy, hullBuiltOf}
 use Rattle.layout.specs.Meaning.{AcceptedFits, AcceptedReadBack, NeverMalformed}
 use Rattle.layout.specs.declared.NewPanner.{NewPanner}
 use Rattle.layout.proofs.Fits.{layout-fits}
@@ -32,6 +29,10 @@ use Rattle.layout.proofs.Slots.{active-low, active-threes, active-few}
 pub accepted-as : (l : Layout) {p : VbapPanner} {k : ℕ} → p ≡ laid l → k ≡ imaginaryIn (l .shape) → _≡_ {A = NewPanner} (record { number = 0; panner = p; imaginary = k }) (accepted l)
 unfolding accepted
 accepted-as l p k = rw (p, k)
+
+-- n outputs, and these active speakers
+unfoldable pub builtOf : ℕ → List Speaker → NewPanner
+builtOf n act = cond (tooManyTriplets act) (refusedBy 4) (accepted (record { outputs = n; shape = shapeOf act }))
 
 module _ (n : ℕ) where
   pub built-none : (act : List Speaker) → length act ≡ 0 → builtOf n act ≡ accepted (record { outputs = n; shape = silent })
@@ -58,6 +59,14 @@ module _ (n : ℕ) where
   built-hull (s ∷ (t ∷ l)) h e = rw e
 
 -- ---- by the refusals
+
+-- an answer chosen by its number has that number
+pub answer-number : {A : Type 0} (number : A → ℕ) (why : ℕ) {x y : A} → number x ≡ 0 → number y ≡ why → number (cond (eqb why 0) x y) ≡ why
+answer-number {A} number why {x} {y} p q = by (eqb why 0) refl
+  where
+    by : (b : Bool) → eqb why 0 ≡ b → number (cond b x y) ≡ why
+    by true e = p ∙ sym (eqb-true why 0 e)
+    by false e = q
 
 module _ (positions : List Float) (lfe : List ℕ) where
   -- the answer by the number
@@ -95,11 +104,7 @@ module _ (positions : List Float) (lfe : List ℕ) where
 
   number-is : (why : ℕ) → answer why .number ≡ why
   unfolding answer accepted refusedBy
-  number-is why = by (eqb why 0) refl
-    where
-      by : (b : Bool) → eqb why 0 ≡ b → cond {A = NewPanner} b (accepted (layoutOf positions lfe)) (refusedBy why) .number ≡ why
-      by true e = sym (eqb-true why 0 e)
-      by false e = refl
+  number-is why = answer-number (λ (x : NewPanner). x .number) why refl refl
 
   pub accepted-is : newOf positions lfe .number ≡ 0 → newOf positions lfe ≡ accepted (layoutOf positions lfe)
   unfolding answer

@@ -1,24 +1,23 @@
 -- What `close`, `neighbours` and `narrowed` answer, as the parts of the hull that the definition builds. Assumes nothing.
-use Prim.Native.Nat.{ℕ, zero, suc, _+_, _-_, _*_, _≤_, _<_}
+use Prim.Native.Nat.{ℕ, _+_, _-_, _*_, _≤_, _<_}
 use mathlib.Core.Path.{_≡_, refl, sym, ap, ap₂, _∙_}
-use mathlib.Core.Bool.{Bool, true, false, _||_, cond}
+use mathlib.Core.Bool.{true, false}
 use mathlib.Core.List.{List, [], _∷_, _++_, map, map-append, flatMap}
 use native.Mathlib.Omega.{arith}
-use borrow.Author.Tests.{ltb-true, eqb-true}
+use borrow.Author.Tests.{ltb-true}
 use lib.Dec.{eqb, ltb}
-use lib.Ieee.{Float, nan, round}
-use lib.ListN.{length, getD, take, replicate, length-append, length-map}
+use lib.Ieee.{Float, nan}
+use lib.ListN.{length, getD, take, replicate, length-map}
 use lib.Seq.{take-all}
-use Rattle.lists.specs.Lists.{from, range, between, every, part, filled}
+use Rattle.lists.specs.Lists.{from, range, between, part, filled}
 use Rattle.lists.proofs.Filled.{take-filled, getD-filled}
-use Rattle.lists.proofs.Tests.{every-at}
+use Rattle.lists.proofs.Tests.{every-at, every-always}
 use Rattle.ieee.specs.Values.{+0}
 use Rattle.ieee.specs.Narrow.{narrowOf}
-use Rattle.vector.specs.Vector.{Vector, Points, pointsIn}
+use Rattle.vector.specs.Vector.{Points, pointsIn}
 use Rattle.vector.specs.Speakers.{Speaker, slotsOf, dirsOf}
 use Rattle.hull.specs.Triplets.{Triplet, tripletsOf}
 use Rattle.hull.specs.Flat.{numbersOf, entriesOf, inversesOf, hullOf}
-use Rattle.hull.specs.declared.Hull.{Hull}
 use Rattle.closing.specs.Closing.{finalPoints, overfull}
 use Rattle.closing.specs.Flat.{closedIn}
 use Rattle.closing.specs.declared.Closed.{Closed}
@@ -28,17 +27,17 @@ use Rattle.neighbours.specs.declared.ImagNbrs.{ImagNbrs}
 use Rattle.panner.specs.Shape.{numbers, hull, imaginaryIn}
 use Rattle.panner.specs.Panner.{laid}
 use Rattle.panner.specs.declared.VbapPanner.{VbapPanner}
-use Rattle.panner.proofs.Bounds.{every-always}
-use Rattle.panner.proofs.Flat.{part-row, by-places, getD-map}
+use Rattle.lists.proofs.Ranges.{by-places, getD-map}
+use Rattle.lists.proofs.Parts.{part-row}
 use Rattle.layout.specs.Layout.{buildHullOf}
 use Rattle.layout.specs.Arrays.{speakersOf, Holds}
 use Rattle.layout.specs.Answers.{accepted, refusedBy, hullBuiltOf}
-use Rattle.layout.specs.declared.Active.{Active}
+use Rattle.layout.specs.Arrays.{Active}
 use Rattle.layout.specs.declared.NewPanner.{NewPanner}
 use Rattle.layout.proofs.Fits.{dirs-count, imag-count}
 use Rattle.layout.proofs.Hulls.{numbers-low, final-count, final-fits}
 use Rattle.layout.proofs.Slots.{slots-of}
-use Rattle.layout.proofs.Speakers.{count-is, slots-count, out-is, dirs-are, dir-holds}
+use Rattle.layout.proofs.Speakers.{count-is, slots-count, out-is, dirs-are, dir-holds, flat-length}
 
 -- ---- the hull of a closed layout
 
@@ -156,29 +155,18 @@ module _ (a : Active) (h : Holds a) (r : Closed) (m : Made (speakersOf a) r) whe
 
 -- ---- directions in 32 bits
 
-narrow-zero : narrowOf +0 ≡ +0
-unfolding narrowOf round
-narrow-zero = refl
-
-map-replicate : {A B : Type 0} (f : A → B) (n : ℕ) (a : A) → map f (replicate n a) ≡ replicate n (f a)
-map-replicate f zero a = refl
-map-replicate {A} {B} f (suc n) a = ap (λ (l : List B). f a ∷ l) (map-replicate f n a)
-
 map-flat : (f : Float → Float) (ls : Points) → map f (flatMap (λ d. d) ls) ≡ flatMap (λ d. d) (map (map f) ls)
 unfolding flatMap
 map-flat f [] = refl
 map-flat f (l ∷ ls) = map-append f l (flatMap (λ d. d) ls) ∙ ap (λ (r : List Float). map f l ++ r) (map-flat f ls)
 
-pub narrowed-are : (a : Active) → Holds a → map narrowOf (a .dir) ≡ filled 120 +0 (flatMap (λ d. d) (buildHullOf (speakersOf a) .dirs))
-unfolding filled buildHullOf
+pub narrowed-are : (a : Active) → Holds a
+    → filled 120 +0 (map narrowOf (take (a .count * 3) (a .dir))) ≡ filled 120 +0 (flatMap (λ d. d) (buildHullOf (speakersOf a) .dirs))
+unfolding buildHullOf
 narrowed-are a h =
     let flat : List Float = flatMap (λ d. d) (dirsOf (speakersOf a)) in
-    let rest = 120 - length flat in
-    ap (map narrowOf) (dir-holds a h)
-    ∙ map-append narrowOf flat (replicate rest +0)
-    ∙ ap₂ _++_ (map-flat narrowOf (dirsOf (speakersOf a))) (map-replicate narrowOf rest +0 ∙ ap (replicate rest) narrow-zero)
-    ∙ ap (λ (k : ℕ). flatMap (λ d. d) (map (map narrowOf) (dirsOf (speakersOf a))) ++ replicate (120 - k) +0)
-    (sym (ap length (sym (map-flat narrowOf (dirsOf (speakersOf a)))) ∙ length-map flat narrowOf))
+    let all : take (a .count * 3) (a .dir) ≡ flat = ap₂ take (sym (flat-length a h)) (dir-holds a h) ∙ take-filled 120 +0 flat in
+    ap (λ (l : List Float). filled 120 +0 (map narrowOf l)) all ∙ ap (filled 120 +0) (map-flat narrowOf (dirsOf (speakersOf a)))
 
 -- ---- the answers
 

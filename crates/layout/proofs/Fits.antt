@@ -1,31 +1,29 @@
 -- An accepted layout is within what the record holds: kind by kind, from what is known of its slots, pairs, points, triplets and neighbours. Assumes nothing.
-use Prim.Native.Nat.{ℕ, zero, suc, _+_, _-_, _*_, _%_, _≤_, _<_}
+use Prim.Native.Nat.{ℕ, _-_, _≤_, _<_}
 use mathlib.Core.Path.{_≡_, refl, sym, ap, ap₂, _∙_}
-use mathlib.Core.Bool.{Bool, true, false, _&&_, _||_, not, cond}
-use mathlib.Core.List.{List, [], _∷_, _++_, map, flatMap}
+use mathlib.Core.Bool.{Bool, true, false, _&&_, cond}
+use mathlib.Core.List.{List, [], _∷_, map, flatMap}
 use native.Mathlib.Omega.{arith}
-use borrow.Author.Tests.{ltb-true, ltb-false, lt-ltb, eqb-true, eq-eqb, ne-eqb}
-use lib.Dec.{eqb, ltb, leb}
-use lib.Ieee.{Float}
-use lib.ListN.{length, getD, length-map}
-use Rattle.lists.specs.Lists.{every, between, range, collect}
+use borrow.Author.Tests.{ltb-true, lt-ltb, eqb-true, eq-eqb}
+use lib.Dec.{eqb, ltb}
+use lib.ListN.{length, length-map}
+use Rattle.lists.specs.Lists.{every, between}
 use Rattle.lists.proofs.Ranges.{length-between}
-use Rattle.lists.proofs.Tests.{every-append, every-at}
+use Rattle.lists.proofs.Tests.{every-append, every-more}
 use Rattle.ieee.specs.Narrow.{narrowOf}
-use Rattle.vector.specs.Vector.{Vector, Points}
+use Rattle.vector.specs.Vector.{Points}
 use Rattle.vector.specs.Speakers.{Speaker, slotsOf, dirsOf}
 use Rattle.planar.specs.Planar.{pairsOf}
 use Rattle.hull.specs.Triplets.{tripletsOf}
 use Rattle.closing.specs.Closing.{finalPoints, overfull}
 use Rattle.neighbours.specs.Neighbours.{neighboursOf}
-use Rattle.panner.specs.Shape.{HullShape, numbers, Shape, silent, mono, planar, hull, Layout}
+use Rattle.panner.specs.Shape.{numbers, planar, hull}
 use Rattle.panner.specs.Panner.{hullIn}
 use Rattle.panner.specs.Malformed.{usedSlots, usedPoints}
-use Rattle.panner.specs.Meaning.{HullFits, ShapeFits, LayoutFits, pointCount}
-use Rattle.panner.proofs.Bounds.{both, every-more}
-use Rattle.layout.specs.Layout.{outputsOf, active, buildHullOf, level, shapeOf, tooManyTriplets, layoutOf}
+use Rattle.panner.specs.Meaning.{HullFits, LayoutFits, pointCount}
+use Rattle.layout.specs.Layout.{buildHullOf, level, shapeOf, tooManyTriplets}
 use Rattle.layout.proofs.Hulls.{numbers-low, inverses-nine, final-count, final-fits, neighbours-fit, neighbours-all-low}
-use Rattle.layout.proofs.Slots.{slots-of, pairs-low, active-low, active-threes, active-few}
+use Rattle.layout.proofs.Slots.{slots-of, pairs-low}
 use Rattle.layout.proofs.Speakers.{three, slots-count, dirs-three, every-map, pairs-few}
 
 -- ---- a hull
@@ -45,7 +43,7 @@ imag-count act =
     ∙ length-between (length (dirsOf act)) (length (finalPoints (dirsOf act)))
 
 module _ (n : ℕ) (act : List Speaker) (few : length act ≤ 40) (threes : every three act ≡ true) where
-  pub hull-fits : every (λ s. ltb (s .slot) 40) act ≡ true → overfull (dirsOf act) ≡ false → HullFits (buildHullOf act)
+  hull-fits : every (λ s. ltb (s .slot) 40) act ≡ true → overfull (dirsOf act) ≡ false → HullFits (buildHullOf act)
   unfolding buildHullOf
   hull-fits low fits =
       record {
@@ -58,13 +56,13 @@ module _ (n : ℕ) (act : List Speaker) (few : length act ≤ 40) (threes : ever
         nbrs = neighbours-fit (slotsOf act) _ (between (length (dirsOf act)) (length (finalPoints (dirsOf act)))) (slots-of 40 act low);
       }
 
-  pub hull-slots : every (λ s. ltb (s .slot) n) act ≡ true → every (λ o. ltb o n) (usedSlots (hull (buildHullOf act))) ≡ true
+  hull-slots : every (λ s. ltb (s .slot) n) act ≡ true → every (λ o. ltb o n) (usedSlots (hull (buildHullOf act))) ≡ true
   unfolding usedSlots buildHullOf
   hull-slots low =
       every-append (λ o. ltb o n) (slotsOf act) _
       ∙ ap₂ _&&_ (slots-of n act low) (neighbours-all-low n (slotsOf act) _ (between (length (dirsOf act)) (length (finalPoints (dirsOf act)))) (slots-of n act low))
 
-  pub hull-points : every (λ p. ltb p (pointCount (hull (buildHullOf act)))) (usedPoints (hull (buildHullOf act))) ≡ true
+  hull-points : every (λ p. ltb p (pointCount (hull (buildHullOf act)))) (usedPoints (hull (buildHullOf act))) ≡ true
   unfolding usedPoints pointCount hullIn buildHullOf
   hull-points =
       let c = final-count (dirsOf act) in

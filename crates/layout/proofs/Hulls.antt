@@ -1,34 +1,29 @@
 -- The hull of a layout: its imaginary points, its triplets and their neighbours are within what the record holds. Assumes nothing.
-use Prim.Native.Nat.{ℕ, zero, suc, _+_, _-_, _≤_, _<_, zero-le}
+use Prim.Native.Nat.{ℕ, _+_, _-_, _≤_}
 use mathlib.Core.Path.{_≡_, refl, sym, ap, _∙_}
-use mathlib.Core.Bool.{Bool, true, false, _&&_, _||_, cond}
-use mathlib.Core.List.{List, [], _∷_, _++_, map, flatMap, List·Memᴰ, List·Memᴰ·head, List·Memᴰ·tail}
-use mathlib.Core.Option.{Option, none, some}
+use mathlib.Core.Bool.{Bool, true, false, _&&_}
+use mathlib.Core.List.{List, [], _∷_, map, flatMap, List·Memᴰ, List·Memᴰ·head, List·Memᴰ·tail}
 use native.Mathlib.Omega.{arith}
 use borrow.Author.Tests.{ltb-true, ltb-false, lt-ltb, le-leb, eq-eqb}
 use lib.Dec.{eqb, ltb, leb}
-use lib.Ieee.{Float}
 use lib.ListN.{length, getD, length-append}
 use Rattle.lists.specs.Lists.{every, any, last}
-use Rattle.lists.proofs.Tests.{every-append, every-snoc, every-at}
-use Rattle.ieee.specs.Values.{+0, 1·0}
-use Rattle.vector.specs.Vector.{Vector, Points, crossOf}
-use Rattle.hull.specs.Triplets.{Triplet, tripletsOf, verdict, inverseOf, closed}
-use Rattle.hull.specs.Meaning.{Keeps}
+use Rattle.lists.proofs.Tests.{every-append, every-snoc, every-at, neither}
+use Rattle.vector.specs.Vector.{Points, crossOf}
+use Rattle.hull.specs.Triplets.{Triplet, tripletsOf, inverseOf}
 use Rattle.hull.proofs.Meaning.{kept-meaning}
 use Rattle.hull.proofs.Verdicts.{verdict-own}
-use Rattle.closing.specs.Closing.{vector, −1, withPole, withPoles, passedOver, candidateOf, onward, closing, stages, finalPoints, overfull}
+use Rattle.closing.specs.Closing.{withPoles, stages, finalPoints, overfull}
 use Rattle.closing.proofs.Stages.{after, closing-after}
 use Rattle.closing.proofs.Meaning.{imaginary-meaning}
 use Rattle.neighbours.specs.Neighbours.{neighboursOf}
 use Rattle.neighbours.proofs.Sound.{reach-keeps}
 use Rattle.neighbours.proofs.Laid.{search-keeps, neighbours-few}
 use Rattle.panner.specs.Shape.{numbers}
-use Rattle.panner.proofs.Bounds.{neither}
 
 -- ---- tests of all elements
 
-pub every-members : {A : Type 0} (f : A → Bool) (l : List A) → ((a : A) → List·Memᴰ a l → f a ≡ true) → every f l ≡ true
+every-members : {A : Type 0} (f : A → Bool) (l : List A) → ((a : A) → List·Memᴰ a l → f a ≡ true) → every f l ≡ true
 unfolding every
 every-members f [] h = refl
 every-members f (a ∷ l) h = rw (h a (List·Memᴰ·head refl)) (every-members f l (λ b m. h b (List·Memᴰ·tail m)))
@@ -91,7 +86,7 @@ final-fits real e =
 -- ---- neighbours
 
 -- every neighbour is a slot of a real point
-pub neighbours-low : (n : ℕ) (out : List ℕ) (ts : List (List ℕ)) (p : ℕ) → every (λ s. ltb s n) out ≡ true → every (λ s. ltb s n) (neighboursOf out ts p) ≡ true
+neighbours-low : (n : ℕ) (out : List ℕ) (ts : List (List ℕ)) (p : ℕ) → every (λ s. ltb s n) out ≡ true → every (λ s. ltb s n) (neighboursOf out ts p) ≡ true
 unfolding every
 neighbours-low n out ts p e =
     search-keeps (λ r. every (λ s. ltb s n) (r .nbrs) ≡ true) out ts

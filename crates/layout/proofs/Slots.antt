@@ -1,7 +1,7 @@
 -- Slots: those of active speakers ascend and are below the outputs, and so are those of the pairs that they make. Assumes nothing.
 use Prim.Native.Nat.{ℕ, zero, suc, _+_, _≤_, _<_, _%_}
 use mathlib.Core.Path.{_≡_, refl, sym, ap, _∙_}
-use mathlib.Core.Bool.{Bool, true, false, _&&_, cond}
+use mathlib.Core.Bool.{Bool, true, false, _&&_}
 use mathlib.Core.List.{List, [], _∷_, _++_, map, flatMap, append-nil}
 use mathlib.Core.Option.{Option, none, some}
 use native.Mathlib.Numerals.{add-one}
@@ -15,17 +15,16 @@ use lib.Seq.{getD-append-seam}
 use Rattle.lists.specs.Lists.{range, collect, joined, every}
 use Rattle.lists.proofs.Collect.{length-collect, map-snoc}
 use Rattle.lists.proofs.Ranges.{range-none, length-range}
-use Rattle.lists.proofs.Tests.{every-append, every-at}
+use Rattle.lists.proofs.Tests.{every-append, every-at, every-getD}
 use Rattle.vector.specs.Speakers.{Speaker, slotsOf}
 use Rattle.order.specs.declared.Spot.{Spot}
 use Rattle.order.proofs.Insertion.{every-sorted}
 use Rattle.planar.specs.declared.PlanarPair.{PlanarPair}
-use Rattle.planar.specs.Planar.{coincident, spotOf, ring, spotAt, lawOf, pairOf, pairAt, pairsOf}
-use Rattle.panner.proofs.Bounds.{every-more, every-getD}
+use Rattle.planar.specs.Planar.{coincident, spotOf, ring, spotAt, pairOf, pairAt, pairsOf}
 use Rattle.layout.specs.Layout.{outputsOf, speakerAt, active}
 use Rattle.layout.specs.Meaning.{Ascending}
 use Rattle.layout.proofs.Hulls.{every-flatMap}
-use Rattle.layout.proofs.Speakers.{every-map, collect-range, active-slot, active-three, three, every-collect, slots-count}
+use Rattle.layout.proofs.Speakers.{every-map, collect-range, picked, active-slot, active-three, three, every-collect, slots-count}
 
 -- ---- a collection over places
 
@@ -49,7 +48,7 @@ every-range {B} f g (suc n) h =
 
 module _ (positions : List Float) (lfe : List ℕ) where
   -- among the first n slots: each is below n
-  pub slots-low : (n : ℕ) → every (λ s. ltb (s .slot) n) (collect (speakerAt positions lfe) (range n)) ≡ true
+  slots-low : (n : ℕ) → every (λ s. ltb (s .slot) n) (collect (speakerAt positions lfe) (range n)) ≡ true
   slots-low n =
       every-range (speakerAt positions lfe) (λ s. ltb (s .slot) n) n
       (λ i h s e. let p = active-slot positions lfe i s e in lt-ltb (s .slot) n (omega arith))
@@ -111,10 +110,6 @@ ascending positions lfe p q g m = rises-range positions lfe (outputsOf positions
 -- ---- pairs
 
 -- the slots of a pair are its spots' numbers
-picked : (b : Bool) (v u : PlanarPair) → cond b none (some v) ≡ some u → v ≡ u
-picked true v u e = cc
-picked false v u e = cc
-
 module _ (g : Float) (s t : Spot) (p : PlanarPair) (e : pairOf g s t ≡ some p) where
   pair-a : p .a ≡ s .number
   unfolding pairOf

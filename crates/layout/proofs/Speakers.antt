@@ -1,5 +1,5 @@
 -- Active speakers: each has a slot below the outputs and a direction of three numbers, and the flat arrays hold them, one more at a time. Assumes nothing.
-use Prim.Native.Nat.{ℕ, suc, _+_, _-_, _*_, _≤_, _<_}
+use Prim.Native.Nat.{ℕ, _+_, _-_, _*_, _≤_, _<_}
 use mathlib.Core.Path.{_≡_, refl, sym, ap, ap₂, _∙_}
 use mathlib.Core.Bool.{Bool, true, false, _&&_, _||_, not, cond}
 use mathlib.Core.List.{List, [], _∷_, _++_, append-nil, append-assoc, map, flatMap}
@@ -13,21 +13,20 @@ use lib.ListN.{length, getD, set, replicate, length-append, length-map}
 use lib.Seq.{sets}
 use Rattle.lists.specs.Lists.{range, collect, joined, every, member, part, filled}
 use Rattle.lists.proofs.Collect.{collect-append, flatMap-snoc, map-snoc, length-collect}
-use Rattle.lists.proofs.Filled.{set-filled-at, getD-filled}
-use Rattle.lists.proofs.Parts.{three-places}
-use Rattle.lists.proofs.Ranges.{range-snoc, range-none, length-range}
+use Rattle.lists.proofs.Filled.{set-filled-at, getD-filled, length-filled}
+use Rattle.lists.proofs.Parts.{three-places, part-row}
+use Rattle.lists.proofs.Ranges.{range-snoc, length-range, by-places, getD-map}
 use Rattle.lists.proofs.Tests.{and-left, and-right}
 use Rattle.ieee.specs.Values.{+0, isFinite}
 use Rattle.vector.specs.Vector.{Vector, x, y, z, unitOf, overOf, lengthOf, shortest, pointsIn}
 use Rattle.vector.specs.Speakers.{Speaker, slotsOf, dirsOf, speakersIn}
-use Rattle.vector.specs.Unit.{unitFor, unitIn}
+use Rattle.vector.specs.Unit.{unitFor}
 use Rattle.vector.specs.declared.Direction.{Direction}
 use Rattle.vector.proofs.Points.{speakerAt as speakerIn, length-speakers}
 use Rattle.planar.specs.Planar.{ring, pairAt, pairsOf}
-use Rattle.panner.proofs.Flat.{by-places, getD-map, part-row}
 use Rattle.layout.specs.Layout.{inSlot, speakerAt, levelAt, level}
 use Rattle.layout.specs.Arrays.{activeIn, speakersOf, Holds, putOf, nextOf}
-use Rattle.layout.specs.declared.Active.{Active}
+use Rattle.layout.specs.Arrays.{Active}
 
 -- ---- a collection
 
@@ -53,7 +52,7 @@ collect-range f i = ap (collect f) (range-snoc i) ∙ collect-append f (range i)
 abbrev pub three : Speaker → Bool
 three s = eqb (length (s .dir)) 3
 
-picked : (b : Bool) (v u : Vector) → cond b none (some v) ≡ some u → v ≡ u
+pub picked : {A : Type 0} (b : Bool) (v u : A) → cond b none (some v) ≡ some u → v ≡ u
 picked true v u e = cc
 picked false v u e = cc
 
@@ -110,7 +109,7 @@ sets-filled {A} n z (v ∷ vs) l h e g =
     sets-filled n z vs (l ++ v ∷ []) (omega (arith, length-append l (v ∷ []))) (set-filled-at n z l v (omega arith) e g) (omega (arith, length-append l (v ∷ [])))
     ∙ ap (filled n z) (append-assoc l (v ∷ []) vs)
 
-pub length-flat : {A : Type 0} (w : ℕ) (ls : List (List A)) → every (λ l. eqb (length l) w) ls ≡ true → length (flatMap (λ l. l) ls) ≡ length ls * w
+length-flat : {A : Type 0} (w : ℕ) (ls : List (List A)) → every (λ l. eqb (length l) w) ls ≡ true → length (flatMap (λ l. l) ls) ≡ length ls * w
 unfolding every flatMap
 length-flat w [] e = sym (zero-mul w)
 length-flat w (l ∷ ls) e =
@@ -151,10 +150,9 @@ next-active act (some s) e t h =
     same-active slots (stored ∙ ap (filled 120 +0) dirs) (sym (length-append act (s ∷ [])))
 
 -- none yet
-pub none-active : (positions : List Float) (lfe : List ℕ)
-    → _≡_ {A = Active} (record { out = replicate 40 0; dir = replicate 120 +0; count = 0 }) (activeIn (collect (speakerAt positions lfe) (range 0)))
-unfolding activeIn slotsOf dirsOf filled flatMap collect
-none-active positions lfe = ap (λ (l : List ℕ). activeIn (collect (speakerAt positions lfe) l)) (sym range-none)
+pub none-active : _≡_ {A = Active} (record { out = replicate 40 0; dir = replicate 120 +0; count = 0 }) (activeIn [])
+unfolding activeIn slotsOf dirsOf filled flatMap
+none-active = refl
 
 -- the arrays count their speakers
 pub counted : (a : Active) (act : List Speaker) → a ≡ activeIn act → a .count ≡ length act
@@ -186,12 +184,20 @@ pub dir-holds : (a : Active) → Holds a → a .dir ≡ filled 120 +0 (flatMap (
 unfolding activeIn
 dir-holds a h = ap (λ (b : Active). b .dir) (h .holds)
 
+pub flat-length : (a : Active) → Holds a → length (flatMap (λ d. d) (dirsOf (speakersOf a))) ≡ a .count * 3
+unfolding dirsOf
+flat-length a h =
+    length-flat 3 (dirsOf (speakersOf a)) (dirs-three (speakersOf a) (h .threes)) ∙ ap (λ (k : ℕ). k * 3) (length-map (speakersOf a) (λ s. s .dir) ∙ count-is a)
+
+pub dir-long : (a : Active) → Holds a → length (a .dir) ≡ 120
+dir-long a h = ap length (dir-holds a h) ∙ length-filled 120 +0 _ (omega (arith, flat-length a h, h .few))
+
 pub dirs-are : (a : Active) → dirsOf (speakersOf a) ≡ pointsIn (a .count) (a .dir)
 unfolding speakersOf speakersIn dirsOf pointsIn
 dirs-are a = map-map (λ s. s .dir) (speakerIn (a .out) (a .dir)) (range (a .count))
 
 -- what the arrays hold is read back
-pub speakers-back : (act : List Speaker) → every three act ≡ true → speakersOf (activeIn act) ≡ act
+speakers-back : (act : List Speaker) → every three act ≡ true → speakersOf (activeIn act) ≡ act
 unfolding speakersOf activeIn speakersIn slotsOf dirsOf filled
 speakers-back act e =
     by-places act (record { slot = 0; dir = [] }) (speakerIn (filled 40 0 (slotsOf act)) (filled 120 +0 (flatMap (λ d. d) (dirsOf act))))
@@ -214,6 +220,7 @@ holds-active a act e few t low =
     record {
       few = omega (arith, counted a act e);
       holds = e ∙ ap activeIn (sym back);
+      threes = ap (every three) back ∙ t;
       slots = ap (every (λ s. ltb (s .slot) 40)) back ∙ low;
     }
 

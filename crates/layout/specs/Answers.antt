@@ -1,4 +1,4 @@
--- Document 01, "Returned numbers": the answers of `new`, by number, and by the active speakers once 1 and 2 are passed. Assumes nothing.
+-- Document 01, "Returned numbers": the answers of `new`, by number, and of active speakers that make a hull. Assumes nothing.
 use Prim.Native.Nat.{ℕ}
 use mathlib.Core.Bool.{cond}
 use mathlib.Core.List.{List}
@@ -6,7 +6,7 @@ use Rattle.vector.specs.Speakers.{Speaker, dirsOf}
 use Rattle.closing.specs.Closing.{overfull}
 use Rattle.panner.specs.Shape.{hull, Layout, imaginaryIn}
 use Rattle.panner.specs.Panner.{laid, noPanner}
-use Rattle.layout.specs.Layout.{buildHullOf, shapeOf, tooManyTriplets}
+use Rattle.layout.specs.Layout.{buildHullOf}
 use Rattle.layout.specs.declared.NewPanner.{NewPanner}
 
 unfoldable pub accepted : Layout → NewPanner
@@ -15,10 +15,6 @@ accepted l = record { number = 0; panner = laid l; imaginary = imaginaryIn (l .s
 unfoldable pub refusedBy : ℕ → NewPanner
 refusedBy why = record { number = why; panner = noPanner; imaginary = 0 }
 
--- n outputs, and these active speakers
-unfoldable pub builtOf : ℕ → List Speaker → NewPanner
-builtOf n act = cond (tooManyTriplets act) (refusedBy 4) (accepted (record { outputs = n; shape = shapeOf act }))
-
--- the same where they make a hull
+-- n outputs, and active speakers that make a hull
 unfoldable pub hullBuiltOf : ℕ → List Speaker → NewPanner
 hullBuiltOf n act = cond (overfull (dirsOf act)) (refusedBy 4) (accepted (record { outputs = n; shape = hull (buildHullOf act) }))

@@ -1,23 +1,28 @@
--- Document 01, "What to write where" (a plain kind beside arrays): active speakers in flat arrays, and the record of each kind. Assumes nothing.
+-- Document 01, "What to write where" (a plain kind beside arrays): active speakers in flat arrays, and the parts of an answer without a hull. Assumes nothing.
 use Prim.Native.Nat.{ℕ, _+_, _*_, _≤_}
 use mathlib.Core.List.{List, [], _∷_, flatMap}
 use mathlib.Core.Option.{Option, none, some}
 use mathlib.Core.Path.{_≡_}
 use mathlib.Core.Bool.{true}
-use lib.Dec.{ltb}
+use lib.Dec.{eqb, ltb}
 use lib.Ieee.{Float}
-use lib.ListN.{length, set, replicate}
+use lib.ListN.{length, set}
 use lib.Seq.{sets}
 use Rattle.lists.specs.Lists.{filled, every}
 use Rattle.ieee.specs.Values.{+0}
 use Rattle.vector.specs.Vector.{Vector, x, y, z}
 use Rattle.vector.specs.Speakers.{Speaker, slotsOf, dirsOf, speakersIn}
-use Rattle.planar.specs.Planar.{noPair}
+use Rattle.planar.specs.Planar.{pairsOf}
+use Rattle.panner.specs.Shape.{Shape}
+use Rattle.panner.specs.Panner.{kindIn, monoIn, pairsIn, slotsIn, noHull, hullIn}
 use Rattle.panner.specs.declared.Kind.{Kind}
-use Rattle.panner.specs.declared.VbapPanner.{VbapPanner}
-use Rattle.layout.specs.declared.Active.{Active}
 
 -- ---- active speakers: slots, three numbers a direction, and how many; 0 and +0 in the places that they leave. Origin of 40: document 01, refusal 2; of 120: three numbers for each of 40.
+
+pub record Active : Type 0 where
+  pub out : List ℕ
+  pub dir : List Float
+  pub count : ℕ
 
 abbrev pub heldIn : List ℕ → List Float → ℕ → Active
 heldIn out dir n = record { out = out; dir = dir; count = n }
@@ -33,6 +38,7 @@ speakersOf a = speakersIn (a .count) (a .out) (a .dir)
 pub record Holds (a : Active) : Type 0 where
   pub few : a .count ≤ 40
   pub holds : a ≡ activeIn (speakersOf a)
+  pub threes : every (λ s. eqb (length (s .dir)) 3) (speakersOf a) ≡ true
   pub slots : every (λ s. ltb (s .slot) 40) (speakersOf a) ≡ true
 
 -- one more; one more where there is one
@@ -43,25 +49,18 @@ unfoldable pub nextOf : Active → Option Speaker → Active
 nextOf a none = a
 nextOf a (some s) = putOf a (s .slot) (s .dir)
 
--- ---- the record of a kind, before its own fields are written
+-- ---- the answer without a hull
 
-unfoldable pub blankOf : ℕ → Kind → VbapPanner
-blankOf n k =
-    record {
-      «num_outputs» = n;
-      kind = k;
-      mono = 0;
-      «num_pairs» = 0;
-      pairs = replicate 40 noPair;
-      «num_slots» = 0;
-      slots = replicate 40 0;
-      «num_real» = 0;
-      «pt_out» = replicate 40 0;
-      «pt_dir» = replicate 120 +0;
-      «num_tris» = 0;
-      idx = replicate 240 0;
-      inv = replicate 720 +0;
-      «num_imag» = 0;
-      «num_nbrs» = replicate 14 0;
-      «imag_nbrs» = replicate 560 0;
-    }
+-- arrays that hold n speakers on a ring: n may be 0 whatever the directions
+pub record RingIn (n : ℕ) (out : List ℕ) (dir : List Float) : Type 0 where
+  pub few : n ≤ 40
+  pub long : length dir ≡ 120
+  pub slots : out ≡ filled 40 0 (slotsOf (speakersIn n out dir))
+
+-- a shape without a hull, by its kind, its mono slot and the speakers on its ring
+pub record Parts (s : Shape) (k : Kind) (m : ℕ) (act : List Speaker) : Type 0 where
+  pub kind : k ≡ kindIn s
+  pub mono : m ≡ monoIn s
+  pub pairs : pairsOf act ≡ pairsIn s
+  pub slots : slotsOf act ≡ slotsIn s
+  pub hull : noHull ≡ hullIn s

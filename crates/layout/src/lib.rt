@@ -1,25 +1,23 @@
 // `VbapPanner::new`: from positions to the record.
 ghost use mathlib.Core.Path.{_≡_};
-ghost use mathlib.Core.List.{map};
+ghost use mathlib.Core.List.{[], map};
 ghost use Prim.Native.Nat.{_+_, _*_, _≤_, _<_};
-ghost use lib.ListN.{length};
-ghost use Rattle.lists.specs.Lists.{range, collect, every, member};
+ghost use lib.ListN.{length, take};
+ghost use Rattle.lists.specs.Lists.{range, collect, every, member, filled};
+ghost use Rattle.ieee.specs.Values.{+0};
 ghost use Rattle.ieee.specs.Narrow.{narrowOf};
 ghost use Rattle.vector.specs.Vector.{pointsIn};
 ghost use Rattle.layout.specs.Layout.{speakerAt, levelAt, newOf};
-ghost use Rattle.layout.specs.Answers.{refusedBy, builtOf, hullBuiltOf};
-ghost use Rattle.layout.specs.Arrays.{heldIn, activeIn, speakersOf, Holds, putOf, nextOf, blankOf};
-ghost use Rattle.vector.specs.Speakers.{slotsOf};
-ghost use Rattle.planar.specs.Planar.{pairsOf};
-ghost use Rattle.panner.specs.Shape.{silent, mono, planar};
+ghost use Rattle.layout.specs.Answers.{hullBuiltOf};
+ghost use Rattle.layout.specs.Arrays.{heldIn, activeIn, speakersOf, Holds, putOf, nextOf, RingIn, Parts};
+ghost use Rattle.panner.specs.Shape.{Shape};
 ghost use Rattle.panner.specs.Panner.{laid};
 use panner::Kind;
 use panner::VbapPanner;
-use planar::Law;
-use planar::PlanarPair;
 
-// PLANAR_MAX_ELEVATION. Origin: vbap.rs line 52; speakers within this elevation of the horizon count as planar.
-const PLANAR_MAX_ELEVATION: f32 = 0.0873;
+// The sine of PLANAR_MAX_ELEVATION, 0.0873 in 32 bits; speakers within this height of the horizon count as planar.
+// Origin: vbap.rs lines 52 and 206; the sine by document 01's steps.
+const PLANAR_MAX_HEIGHT: f64 = 0.08718915504410238;
 
 // What `new` answers: 0 or the refusal's number, the layout, and how many imaginary points were made.
 pub struct NewPanner {
@@ -28,15 +26,8 @@ pub struct NewPanner {
     pub imaginary: usize,
 }
 
-// ---- active speakers
-
-// The active speakers: their slots, their unit directions, three numbers each, and how many there are.
+// ---- active speakers, in two lent arrays: their slots, and their unit directions, three numbers each
 // Origin of 40: document 01, refusal 2; of 120: three numbers for each of 40.
-struct Active {
-    out: [u8; 40],
-    dir: [f64; 120],
-    count: usize,
-}
 
 // Whether slot i is listed as LFE.
 fn is_lfe(lfe: &[usize], i: usize) -> bool
@@ -90,20 +81,24 @@ fn next(
     n
 }
 
-// The active speakers among the first `outputs`.
-fn active_speakers(positions: &[f32], lfe: &[usize], outputs: usize) -> Active
-    requires { ⌜ (outputs ≤ 40) × (outputs * 3 ≤ length (now positions)) ⌝ }
-    ensures { λ r. ⌜ r ≡ activeIn (collect (speakerAt (now (positions .entry)) (now (lfe .entry))) (range outputs)) ⌝ }
+// The active speakers among the first `outputs`, into empty arrays; how many there are.
+fn active_speakers(
+    out: &mut [u8; 40],
+    dir: &mut [f64; 120],
+    positions: &[f32],
+    lfe: &[usize],
+    outputs: usize,
+) -> usize
+    requires { ⌜ (outputs ≤ 40) × (outputs * 3 ≤ length (now positions)) × (heldIn (now out) (now dir) 0 ≡ activeIn []) ⌝ }
+    ensures { λ r. ⌜ heldIn (now (out .exit)) (now (dir .exit)) r ≡ activeIn (collect (speakerAt (now (positions .entry)) (now (lfe .entry))) (range outputs)) ⌝ }
 {
-    let mut out = [0u8; 40];
-    let mut dir = [0.0; 120];
     let mut n: usize = 0;
     let mut i: usize = 0;
     while i < outputs {
-        n = next(&mut out, &mut dir, n, positions, lfe, i);
+        n = next(out, dir, n, positions, lfe, i);
         i += 1;
     }
-    Active { out, dir, count: n }
+    n
 }
 
 // Whether the first n directions are level: |height| at most the sine of 0.0873.
@@ -111,11 +106,10 @@ fn all_level(dir: &[f64; 120], n: usize) -> bool
     requires { ⌜ n ≤ 40 ⌝ }
     ensures { λ r. ⌜ r ≡ every levelAt (pointsIn n (now (dir .entry))) ⌝ }
 {
-    let most = trig::sin(ieee::widen(PLANAR_MAX_ELEVATION));
     let mut i: usize = 0;
     while i < n {
         let height = ieee::abs64(dir[i * 3 + 1]);
-        if height <= most {
+        if height <= PLANAR_MAX_HEIGHT {
             i += 1;
         } else {
             return false;
@@ -124,178 +118,135 @@ fn all_level(dir: &[f64; 120], n: usize) -> bool
     true
 }
 
-// The same numbers in 32 bits.
-fn narrowed(dir: [f64; 120]) -> [f32; 120]
-    ensures { λ r. ⌜ r ≡ map narrowOf dir ⌝ }
+// The first n directions in 32 bits.
+fn narrowed(dir: &[f64; 120], n: usize) -> [f32; 120]
+    requires { ⌜ (n ≤ 40) × (length (now dir) ≡ 120) ⌝ }
+    ensures { λ r. ⌜ r ≡ filled 120 +0 (map narrowOf (take (n * 3) (now (dir .entry)))) ⌝ }
 {
     let mut r = [0.0f32; 120];
     let mut i: usize = 0;
-    while i < 120 {
+    while i < n * 3 {
         r[i] = ieee::narrow(dir[i]);
         i += 1;
     }
     r
 }
 
-// ---- the record, kind by kind, each from a blank one
+// ---- the answer, one literal each: a blank record with fields written over it would be moved about whole.
+// The array of no pairs is planar's, of a ring of none: written out here, it would be moved pair by pair.
 
-// A record of its kind whose other places and counts hold 0, +0 or the crossfade.
-fn blank(outputs: u8, kind: Kind) -> VbapPanner
-    ensures { λ r. ⌜ r ≡ blankOf outputs kind ⌝ }
+// The answer without a hull: the pairs and the slots of n speakers on a ring, none where n is 0.
+fn without_hull(
+    number: u32,
+    outputs: u8,
+    kind: Kind,
+    mono: u8,
+    out: &[u8; 40],
+    dir: &[f64; 120],
+    n: usize,
+) -> NewPanner
+    requires { ⌜ RingIn n (now out) (now dir) ⌝ }
+    ensures { λ r. ⌜ ((s : Shape) → Parts s kind mono (speakersOf (heldIn (now (out .entry)) (now (dir .entry)) n)) → r ≡ record { number = number; panner = laid (record { outputs = outputs; shape = s }); imaginary = 0 }) ⌝ }
 {
-    let pair = PlanarPair {
-        start: 0.0,
-        gap: 0.0,
-        a: 0,
-        b: 0,
-        law: Law::Crossfade,
-    };
-    VbapPanner {
-        num_outputs: outputs,
-        kind,
-        mono: 0,
-        num_pairs: 0,
-        pairs: [pair; 40],
-        num_slots: 0,
-        slots: [0; 40],
-        num_real: 0,
-        pt_out: [0; 40],
-        pt_dir: [0.0; 120],
-        num_tris: 0,
-        idx: [0; 240],
-        inv: [0.0; 720],
-        num_imag: 0,
-        num_nbrs: [0; 14],
-        imag_nbrs: [0; 560],
-    }
-}
-
-// `Kind::Silent`.
-fn build_silent(outputs: u8) -> VbapPanner
-    ensures { λ r. ⌜ r ≡ laid (record { outputs = outputs; shape = silent }) ⌝ }
-{
-    blank(outputs, Kind::Silent)
-}
-
-// `Kind::Mono`.
-fn build_mono(outputs: u8, slot: u8) -> VbapPanner
-    ensures { λ r. ⌜ r ≡ laid (record { outputs = outputs; shape = mono slot }) ⌝ }
-{
-    let mut p = blank(outputs, Kind::Mono);
-    p.mono = slot;
-    p
-}
-
-// `Kind::Planar`.
-fn build_planar(outputs: u8, act: Active) -> VbapPanner
-    requires { ⌜ Holds act ⌝ }
-    ensures { λ r. ⌜ r ≡ laid (record { outputs = outputs; shape = planar (pairsOf (speakersOf act)) (slotsOf (speakersOf act)) }) ⌝ }
-{
-    let slots = act.out;
-    let n = act.count;
-    let made = planar::build_planar(&slots, &act.dir, n);
+    let made = planar::build_planar(out, dir, n);
     let pairs = made.pairs;
-    let mut p = blank(outputs, Kind::Planar);
-    p.num_pairs = made.num_pairs as u8;
-    p.pairs = pairs;
-    p.num_slots = n as u8;
-    p.slots = slots;
-    p
-}
-// ---- `new`
-
-// The answer beside a refusal.
-fn refused(why: u32) -> NewPanner
-    ensures { λ r. ⌜ r ≡ refusedBy why ⌝ }
-{
+    let slots = *out;
     NewPanner {
-        number: why,
-        panner: build_silent(0),
+        number,
+        panner: VbapPanner {
+            num_outputs: outputs,
+            kind,
+            mono,
+            num_pairs: made.num_pairs as u8,
+            pairs,
+            num_slots: n as u8,
+            slots,
+            num_real: 0,
+            pt_out: [0; 40],
+            pt_dir: [0.0; 120],
+            num_tris: 0,
+            idx: [0; 240],
+            inv: [0.0; 720],
+            num_imag: 0,
+            num_nbrs: [0; 14],
+            imag_nbrs: [0; 560],
+        },
         imaginary: 0,
     }
 }
 
 // `Kind::Hull`, `VbapPanner::build_hull`; refused where a triplet list on the way has more than 80 entries.
-fn build_hull(outputs: u8, act: Active) -> NewPanner
-    requires { ⌜ Holds act ⌝ }
-    ensures { λ r. ⌜ r ≡ hullBuiltOf outputs (speakersOf act) ⌝ }
+fn build_hull(outputs: u8, out: &[u8; 40], dir: &[f64; 120], n: usize) -> NewPanner
+    requires { ⌜ Holds (heldIn (now out) (now dir) n) ⌝ }
+    ensures { λ r. ⌜ r ≡ hullBuiltOf outputs (speakersOf (heldIn (now (out .entry)) (now (dir .entry)) n)) ⌝ }
 {
-    let out = act.out;
-    let dir = act.dir;
-    let n = act.count;
-    let closed = closing::close(&dir, n);
+    let slots = [0u8; 40];
+    let closed = closing::close(dir, n);
     if closed.over {
-        return refused(4);
+        return without_hull(4, 0, Kind::Silent, 0, &slots, dir, 0);
     }
     let imag = closed.imag;
     let hull = closed.hull;
     let idx = hull.idx;
     let inv = hull.inv;
     let tris = hull.count;
-    let nbrs = neighbours::neighbours(&idx, tris, &out, n, n + imag);
+    let nbrs = neighbours::neighbours(&idx, tris, out, n, n + imag);
     let num_nbrs = nbrs.num_nbrs;
     let imag_nbrs = nbrs.imag_nbrs;
-    let pt_dir = narrowed(dir);
-    let mut p = blank(outputs, Kind::Hull);
-    p.num_real = n as u8;
-    p.pt_out = out;
-    p.pt_dir = pt_dir;
-    p.num_tris = tris as u8;
-    p.idx = idx;
-    p.inv = inv;
-    p.num_imag = imag as u8;
-    p.num_nbrs = num_nbrs;
-    p.imag_nbrs = imag_nbrs;
+    let pt_out = *out;
+    let pt_dir = narrowed(dir, n);
+    let none = planar::build_planar(out, dir, 0);
+    let pairs = none.pairs;
     NewPanner {
         number: 0,
-        panner: p,
+        panner: VbapPanner {
+            num_outputs: outputs,
+            kind: Kind::Hull,
+            mono: 0,
+            num_pairs: 0,
+            pairs,
+            num_slots: 0,
+            slots,
+            num_real: n as u8,
+            pt_out,
+            pt_dir,
+            num_tris: tris as u8,
+            idx,
+            inv,
+            num_imag: imag as u8,
+            num_nbrs,
+            imag_nbrs,
+        },
         imaginary: imag,
     }
 }
 
-// The answer of n outputs with these active speakers: none is silent; one, mono; all level, planar; else hull.
-fn built(outputs: u8, act: Active) -> NewPanner
-    requires { ⌜ Holds act ⌝ }
-    ensures { λ r. ⌜ r ≡ builtOf outputs (speakersOf act) ⌝ }
-{
-    let n = act.count;
-    if n == 0 {
-        return NewPanner {
-            number: 0,
-            panner: build_silent(outputs),
-            imaginary: 0,
-        };
-    }
-    if n == 1 {
-        let slots = act.out;
-        return NewPanner {
-            number: 0,
-            panner: build_mono(outputs, slots[0]),
-            imaginary: 0,
-        };
-    }
-    if all_level(&act.dir, n) {
-        return NewPanner {
-            number: 0,
-            panner: build_planar(outputs, act),
-            imaginary: 0,
-        };
-    }
-    build_hull(outputs, act)
-}
-
 // `VbapPanner::new`: positions are three numbers a speaker, lfe lists slots that never receive panned signal.
+// None active is silent; one, mono; all level, planar; else hull.
 // Origin of 1, 2, 4 and of 40 outputs: document 01, "Returned numbers".
 pub fn new(positions: &[f32], lfe: &[usize]) -> NewPanner
     ensures { λ r. ⌜ r ≡ newOf (now (positions .entry)) (now (lfe .entry)) ⌝ }
 {
+    let none = [0u8; 40];
+    let mut out = [0u8; 40];
+    let mut dir = [0.0; 120];
     if positions.len() % 3 != 0 {
-        return refused(1);
+        return without_hull(1, 0, Kind::Silent, 0, &none, &dir, 0);
     }
     let outputs = positions.len() / 3;
     if 40 < outputs {
-        return refused(2);
+        return without_hull(2, 0, Kind::Silent, 0, &none, &dir, 0);
     }
-    let act = active_speakers(positions, lfe, outputs);
-    built(outputs as u8, act)
+    let n = active_speakers(&mut out, &mut dir, positions, lfe, outputs);
+    let o = outputs as u8;
+    if n == 0 {
+        return without_hull(0, o, Kind::Silent, 0, &none, &dir, 0);
+    }
+    if n == 1 {
+        return without_hull(0, o, Kind::Mono, out[0], &none, &dir, 0);
+    }
+    if all_level(&dir, n) {
+        return without_hull(0, o, Kind::Planar, 0, &out, &dir, n);
+    }
+    build_hull(o, &out, &dir, n)
 }

@@ -26,6 +26,12 @@ module _ {A B : Type 0} where
   unfolding flatMap
   flatMap-snoc f l a = flatMap-append f l (a ∷ []) ∙ ap (λ (r : List B). flatMap f l ++ r) (append-nil (f a))
 
+-- what is made of what was made before
+pub flatMap-map : {A B C : Type 0} (f : B → List C) (g : A → B) (l : List A) → flatMap f (map g l) ≡ flatMap (λ a. f (g a)) l
+unfolding flatMap
+flatMap-map f g [] = refl
+flatMap-map {A} {B} {C} f g (a ∷ l) = ap (λ (r : List C). f (g a) ++ r) (flatMap-map f g l)
+
 -- ---- filter
 
 module _ {A : Type 0} (f : A → Bool) where
@@ -86,9 +92,3 @@ module _ {A B : Type 0} (f : A → Option B) where
       by : (o : Option B) → length (collect f l) ≤ length l → length (joined o (collect f l)) ≤ suc (length l)
       by none h = omega arith
       by (some b) h = omega arith
-
--- what is made of what was made before
-pub collect-map : {A B C : Type 0} (f : B → Option C) (g : A → B) (l : List A) → collect f (map g l) ≡ collect (λ a. f (g a)) l
-unfolding collect
-collect-map f g [] = refl
-collect-map f g (a ∷ l) = ap (joined (f (g a))) (collect-map f g l)

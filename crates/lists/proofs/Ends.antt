@@ -1,17 +1,13 @@
 -- Laws of `last`, `butLast` and `change`, each by the list. Assumes nothing.
-use Prim.Native.Nat.{ℕ, zero, suc, _<_}
+use Prim.Native.Nat.{ℕ, zero, suc, _-_, _<_}
 use mathlib.Core.Path.{_≡_, refl, ap}
 use mathlib.Core.List.{List, [], _∷_, _++_}
+use native.Mathlib.Nat.{not-suc-le-zero}
 use native.Mathlib.Omega.{arith}
 use lib.ListN.{length, getD, set}
 use Rattle.lists.specs.Lists.{last, butLast, change}
 
 module _ {A : Type 0} where
-  pub last-snoc : (l : List A) (a d : A) → last (l ++ a ∷ []) d ≡ a
-  unfolding last
-  last-snoc [] a d = refl
-  last-snoc (b ∷ l) a d = last-snoc l a b
-
   pub butLast-snoc : (l : List A) (a : A) → butLast (l ++ a ∷ []) ≡ l
   unfolding butLast
   butLast-snoc [] a = refl
@@ -19,14 +15,13 @@ module _ {A : Type 0} where
   butLast-snoc (b ∷ (c ∷ l)) a = ap (λ (r : List A). b ∷ r) (butLast-snoc (c ∷ l) a)
 
   -- the last of a list stands at its last place
-  pub last-getD : (l : List A) (a d : A) → last (a ∷ l) d ≡ getD (a ∷ l) (length l) d
+  pub last-at : (l : List A) (d e : A) → 0 < length l → last l d ≡ getD l (length l - 1) e
   unfolding last
-  last-getD [] a d = refl
-  last-getD (b ∷ l) a d = by l b
-    where
-      by : (m : List A) (c : A) → last m c ≡ getD (c ∷ m) (length m) d
-      by [] c = refl
-      by (e ∷ m) c = by m e
+  last-at [] d e h = absurd (not-suc-le-zero h)
+  last-at (a ∷ []) d e h = refl
+  last-at (a ∷ (b ∷ l)) d e h =
+      let g : length (a ∷ b ∷ l) - 1 ≡ suc (length (b ∷ l) - 1) = omega arith in
+      rw g (last-at (b ∷ l) a e (omega arith))
 
   pub length-change : (i : ℕ) (f : A → A) (l : List A) → length (change i f l) ≡ length l
   unfolding change

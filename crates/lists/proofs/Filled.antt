@@ -4,8 +4,8 @@ use mathlib.Core.Path.{_≡_, refl, sym, ap, _∙_}
 use mathlib.Core.List.{List, [], _∷_, _++_, append-nil}
 use native.Mathlib.Nat.{sub-zero}
 use native.Mathlib.Omega.{arith}
-use lib.ListN.{length, getD, set, take, drop, replicate, length-append, length-replicate, getD-replicate, List·getD-append}
-use lib.Seq.{set-append-seam, append-snoc, getD-append-add, take-at, drop-at}
+use lib.ListN.{length, getD, set, take, replicate, length-append, length-replicate, List·getD-append}
+use lib.Seq.{set-append-seam, append-snoc, take-at}
 use Rattle.lists.specs.Lists.{filled}
 
 module _ {A : Type 0} (n : ℕ) (z : A) where
@@ -39,22 +39,10 @@ module _ {A : Type 0} (n : ℕ) (z : A) where
   unfolding filled
   getD-filled l i d h = List·getD-append l (replicate (n - length l) z) d i h
 
-  pub getD-filled-end : (l : List A) (i : ℕ) (d : A) → length l ≤ i → i < n → getD (filled n z l) i d ≡ z
-  unfolding filled
-  getD-filled-end l i d h g =
-      let e : i ≡ length l + (i - length l) = omega arith in
-      ap (λ (k : ℕ). getD (l ++ replicate (n - length l) z) k d) e
-      ∙ getD-append-add l (replicate (n - length l) z) (i - length l) d
-      ∙ getD-replicate (n - length l) (i - length l) z d (omega arith)
-
-  -- what was stored, and what fills
+  -- what was stored
   pub take-filled : (l : List A) → take (length l) (filled n z l) ≡ l
   unfolding filled
   take-filled l = take-at l (replicate (n - length l) z) (length l) refl
-
-  pub drop-filled : (l : List A) → drop (length l) (filled n z l) ≡ replicate (n - length l) z
-  unfolding filled
-  drop-filled l = drop-at l (replicate (n - length l) z) (length l) refl
 
 -- ---- a loop that stores what it finds at the end of what it has
 

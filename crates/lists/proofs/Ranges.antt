@@ -5,8 +5,8 @@ use mathlib.Core.List.{List, [], _∷_, _++_, map, map-append}
 use native.Mathlib.Nat.{add-zero, sub-zero, not-suc-le-zero}
 use native.Mathlib.Numerals.{add-one}
 use native.Mathlib.Omega.{arith}
-use lib.ListN.{length, getD, take, length-map}
-use lib.Seq.{getD-take, length-take-le, ext-getD}
+use lib.ListN.{length, getD, take, drop, length-map, length-drop}
+use lib.Seq.{getD-take, getD-drop, take-take, length-take-le, ext-getD}
 use Rattle.lists.specs.Lists.{from, range, between}
 
 pub length-from : (a n : ℕ) → length (from a n) ≡ n
@@ -87,18 +87,11 @@ between-append a b c h g =
     let f : a + (b - a) ≡ b = omega arith in
     ap (from a) e ∙ from-append a (b - a) (c - b) ∙ ap (λ (k : ℕ). from a (b - a) ++ from k (c - b)) f
 
-pub getD-between : (a b i d : ℕ) → i < b - a → getD (between a b) i d ≡ a + i
-unfolding between
-getD-between a b i d h = getD-from a (b - a) i d h
-
 pub range-between : (n : ℕ) → range n ≡ between 0 n
 unfolding range between
 range-between n = ap (from 0) (sym (sub-zero n))
 
 -- ---- a list by its places
-
-pub map-between : {A : Type 0} (f : ℕ → A) (a b : ℕ) → a < b → map f (between a b) ≡ f a ∷ map f (between (a + 1) b)
-map-between f a b h = ap (map f) (between-cons a b h)
 
 pub map-range-snoc : {A : Type 0} (f : ℕ → A) (n : ℕ) → map f (range (n + 1)) ≡ map f (range n) ++ f n ∷ []
 map-range-snoc f n = ap (map f) (range-snoc n) ∙ map-append f (range n) (n ∷ [])
@@ -106,24 +99,42 @@ map-range-snoc f n = ap (map f) (range-snoc n) ∙ map-append f (range n) (n ∷
 pub length-map-range : {A : Type 0} (f : ℕ → A) (n : ℕ) → length (map f (range n)) ≡ n
 length-map-range f n = length-map (range n) f ∙ length-range n
 
-pub getD-map-from : {A : Type 0} (f : ℕ → A) (a n i : ℕ) (d : A) → i < n → getD (map f (from a n)) i d ≡ f (a + i)
-unfolding from
-getD-map-from f a zero i d h = absurd (not-suc-le-zero h)
-getD-map-from f a (suc n) zero d h = ap f (sym (add-zero a))
-getD-map-from f a (suc n) (suc i) d h =
-    let e : suc a + i ≡ a + suc i = omega arith in
-    getD-map-from f (suc a) n i d (omega arith) ∙ ap f e
+pub getD-map : {A B : Type 0} (f : A → B) (l : List A) (i : ℕ) (d : A) (b : B) → i < length l → getD (map f l) i b ≡ f (getD l i d)
+getD-map f [] i d b h = absurd (not-suc-le-zero h)
+getD-map f (a ∷ l) zero d b h = refl
+getD-map f (a ∷ l) (suc i) d b h = getD-map f l i d b (omega arith)
 
 pub getD-map-range : {A : Type 0} (f : ℕ → A) (n i : ℕ) (d : A) → i < n → getD (map f (range n)) i d ≡ f i
-unfolding range
-getD-map-range f n i d h =
-    let e : 0 + i ≡ i = omega arith in
-    getD-map-from f 0 n i d h ∙ ap f e
+getD-map-range f n i d h = getD-map f (range n) i 0 d (omega (arith, length-range n)) ∙ ap f (getD-range n i 0 h)
 
--- the elements at the first n places are the first n elements
-pub take-places : {A : Type 0} (l : List A) (d : A) (n : ℕ) → n ≤ length l → map (λ i. getD l i d) (range n) ≡ take n l
-take-places l d n h =
-    let e : length (take n l) ≡ n = length-take-le n l h in
-    let g : length (map (λ i. getD l i d) (range n)) ≡ n = length-map-range (λ i. getD l i d) n in
-    ext-getD d (map (λ i. getD l i d) (range n)) (take n l) (g ∙ sym e)
-    (λ i m. let p : i < n = omega arith in getD-map-range (λ j. getD l j d) n i d p ∙ sym (getD-take n l i d p))
+-- two lists told by their places
+pub same-places : {A : Type 0} (f g : ℕ → A) (n : ℕ) → ((i : ℕ) → i < n → f i ≡ g i) → map f (range n) ≡ map g (range n)
+unfolding range from
+same-places f g n h = by 0 n (λ i m. h i (omega arith))
+  where
+    by : (a m : ℕ) → ((i : ℕ) → i < a + m → f i ≡ g i) → map f (from a m) ≡ map g (from a m)
+    by a zero h = refl
+    by a (suc m) h = rw (h a (omega arith), by (suc a) m (λ i k. h i (omega arith)))
+
+-- a list by its places
+pub by-places : {A : Type 0} (l : List A) (d : A) (f : ℕ → A) → ((i : ℕ) → i < length l → f i ≡ getD l i d) → map f (range (length l)) ≡ l
+by-places l d f h =
+    ext-getD d (map f (range (length l))) l (length-map-range f (length l))
+    (λ i m. let p : i < length l = omega (arith, length-map-range f (length l)) in getD-map-range f (length l) i d p ∙ h i p)
+
+module _ {A : Type 0} (l : List A) (d : A) where
+  -- the elements at the first n places are the first n elements
+  pub take-places : (n : ℕ) → n ≤ length l → map (λ i. getD l i d) (range n) ≡ take n l
+  take-places n h =
+      let e : length (take n l) ≡ n = length-take-le n l h in
+      ap (λ (k : ℕ). map (λ i. getD l i d) (range k)) (sym e)
+      ∙ by-places (take n l) d (λ i. getD l i d) (λ i m. sym (getD-take n l i d (omega arith)))
+
+  -- the first n of the elements at the first m places
+  pub take-front : (m n : ℕ) → n ≤ m → m ≤ length l → take n (map (λ i. getD l i d) (range m)) ≡ take n l
+  take-front m n h g = ap (take n) (take-places m g) ∙ take-take n m l h
+
+-- the n elements from place k on
+pub drop-places : {A : Type 0} (l : List A) (d : A) (k n : ℕ) → k + n ≤ length l → take n (drop k l) ≡ map (λ i. getD l (k + i) d) (range n)
+drop-places l d k n h =
+    sym (take-places (drop k l) d n (omega (arith, length-drop k l))) ∙ same-places (λ i. getD (drop k l) i d) (λ i. getD l (k + i) d) n (λ i m. getD-drop k l i d)

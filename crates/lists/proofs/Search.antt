@@ -1,6 +1,6 @@
--- Laws of `firstThat` and `position` at a turn of a loop over the first n elements: here, one on, and at the end; and where what is found stands. Assumes nothing.
+-- Laws of `firstThat` and `position` at a turn of a loop over the first n elements: here, one on, and at the end. Assumes nothing.
 use Prim.Native.Nat.{ℕ, suc, _+_, _≤_, _<_, zero-le}
-use mathlib.Core.Path.{_≡_, refl}
+use mathlib.Core.Path.{_≡_}
 use mathlib.Core.Bool.{Bool, true, false, cond}
 use mathlib.Core.List.{List, [], _∷_}
 use native.Mathlib.Omega.{arith}
@@ -43,13 +43,3 @@ module _ {A : Type 0} (f : A → Bool) where
       by : (b : Bool) → position f l ≤ length l → cond b 0 (suc (position f l)) ≤ suc (length l)
       by true h = omega arith
       by false h = omega arith
-
-  -- the first that passes stands at its position
-  pub first-position : (l : List A) (d : A) → firstThat f l d ≡ getD l (position f l) d
-  unfolding firstThat position
-  first-position [] d = refl
-  first-position (a ∷ l) d = by (f a) (first-position l d)
-    where
-      by : (b : Bool) → firstThat f l d ≡ getD l (position f l) d → cond b a (firstThat f l d) ≡ getD (a ∷ l) (cond b 0 (suc (position f l))) d
-      by true e = refl
-      by false e = e

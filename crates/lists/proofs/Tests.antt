@@ -1,8 +1,9 @@
--- Laws of `every`, `any` and `isEmpty`: over `++`, over one element more, and at a turn of a loop over the first n elements. Assumes nothing.
-use Prim.Native.Nat.{zero, ℕ, suc, _+_, _≤_, _<_}
+-- Laws of tests: of two Bools; of `every` and `any` over `++`, over parts of a list, by one another, and at a turn of a loop over the first n elements; of `isEmpty`. Assumes nothing.
+use Prim.Native.Nat.{zero, ℕ, suc, _+_, _*_, _≤_, _<_}
 use mathlib.Core.Path.{_≡_, refl, sym, ap, _∙_}
-use mathlib.Core.Bool.{Bool, true, false, _&&_, _||_}
-use mathlib.Core.List.{List, [], _∷_, _++_}
+use mathlib.Core.Bool.{Bool, true, false, _&&_, _||_, cond}
+use mathlib.Core.Logic.{_⊎_, inl, inr}
+use mathlib.Core.List.{List, [], _∷_, _++_, flatMap}
 use native.Mathlib.Nat.{not-suc-le-zero}
 use native.Mathlib.Numerals.{add-one}
 use native.Mathlib.Omega.{arith}
@@ -10,7 +11,9 @@ use lib.Dec.{eqb}
 use lib.ListN.{length, getD, take, drop, drop-of-length-le}
 use lib.Seq.{drop-cons, getD-take, length-take-le}
 use borrow.Author.Tests.{ne-eqb}
-use Rattle.lists.specs.Lists.{every, any, isEmpty}
+use Rattle.lists.specs.Lists.{every, any, isEmpty, part}
+
+-- ---- two Bools
 
 pub and-assoc : (a b c : Bool) → a && b && c ≡ a && (b && c)
 and-assoc true b c = refl
@@ -42,6 +45,29 @@ pub and-right : (a b : Bool) → a && b ≡ true → b ≡ true
 and-right true b h = h
 and-right false b h = cc
 
+pub both : (a b : Bool) → a && b ≡ true → (a ≡ true) × (b ≡ true)
+both a b h = (and-left a b h, and-right a b h)
+
+pub and-both : {a b : Bool} → a ≡ true → b ≡ true → a && b ≡ true
+and-both e g = rw e g
+
+pub neither : (a b : Bool) → a || b ≡ false → (a ≡ false) × (b ≡ false)
+neither true b h = (h, cc)
+neither false b h = (refl, h)
+
+pub either : (a b : Bool) → a || b ≡ true → (a ≡ true) ⊎ (b ≡ true)
+either true b h = inl refl
+either false b h = inr h
+
+-- a choice by a test
+pub cond-yes : {A : Type 0} {b : Bool} (x y : A) → b ≡ true → cond b x y ≡ x
+cond-yes x y h = rw h
+
+pub cond-no : {A : Type 0} {b : Bool} (x y : A) → b ≡ false → cond b x y ≡ y
+cond-no x y h = rw h
+
+-- ---- more elements
+
 module _ {A : Type 0} (f : A → Bool) where
   pub every-append : (l m : List A) → every f (l ++ m) ≡ every f l && every f m
   unfolding every
@@ -61,12 +87,75 @@ module _ {A : Type 0} (f : A → Bool) where
   unfolding any
   any-snoc l a = any-append l (a ∷ []) ∙ ap (λ (b : Bool). any f l || b) (or-false (f a))
 
--- what every element passes, the element at a place passes
-pub every-at : {A : Type 0} (f : A → Bool) (l : List A) (i : ℕ) (d : A) → every f l ≡ true → i < length l → f (getD l i d) ≡ true
-unfolding every
-every-at f [] i d e h = absurd (not-suc-le-zero h)
-every-at f (a ∷ l) zero d e h = and-left (f a) (every f l) e
-every-at f (a ∷ l) (suc i) d e h = every-at f l i d (and-right (f a) (every f l) e) (omega arith)
+  -- ---- what every element passes, each of them passes
+
+  pub every-take : (n : ℕ) (l : List A) → every f l ≡ true → every f (take n l) ≡ true
+  unfolding every
+  every-take zero [] e = refl
+  every-take zero (a ∷ l) e = refl
+  every-take (suc n) [] e = refl
+  every-take (suc n) (a ∷ l) e =
+      let p = both (f a) (every f l) e in
+      rw (p .0) (every-take n l (p .1))
+
+  pub every-drop : (n : ℕ) (l : List A) → every f l ≡ true → every f (drop n l) ≡ true
+  unfolding every
+  every-drop zero [] e = refl
+  every-drop zero (a ∷ l) e = e
+  every-drop (suc n) [] e = refl
+  every-drop (suc n) (a ∷ l) e = every-drop n l (and-right (f a) (every f l) e)
+
+  pub every-part : (n : ℕ) (l : List A) (k : ℕ) → every f l ≡ true → every f (part n l k) ≡ true
+  unfolding part
+  every-part n l k e = every-take n (drop (k * n) l) (every-drop (k * n) l e)
+
+  -- the element at a place
+  pub every-at : (l : List A) (i : ℕ) (d : A) → every f l ≡ true → i < length l → f (getD l i d) ≡ true
+  unfolding every
+  every-at [] i d e h = absurd (not-suc-le-zero h)
+  every-at (a ∷ l) zero d e h = and-left (f a) (every f l) e
+  every-at (a ∷ l) (suc i) d e h = every-at l i d (and-right (f a) (every f l) e) (omega arith)
+
+  -- or what stands for one past the end
+  pub every-getD : (l : List A) (i : ℕ) (d : A) → f d ≡ true → every f l ≡ true → f (getD l i d) ≡ true
+  unfolding every
+  every-getD [] i d h e = h
+  every-getD (a ∷ l) zero d h e = and-left (f a) (every f l) e
+  every-getD (a ∷ l) (suc i) d h e = every-getD l i d h (and-right (f a) (every f l) e)
+
+  -- a test that every element passes, and one that none passes
+  pub every-always : ((a : A) → f a ≡ true) → (l : List A) → every f l ≡ true
+  unfolding every
+  every-always h [] = refl
+  every-always h (a ∷ l) = rw (h a) (every-always h l)
+
+  pub any-never : ((a : A) → f a ≡ false) → (l : List A) → any f l ≡ false
+  unfolding any
+  any-never h [] = refl
+  any-never h (a ∷ l) = rw (h a) (any-never h l)
+
+-- ---- one test by another
+
+module _ {A : Type 0} {f g : A → Bool} where
+  pub every-more : ((a : A) → f a ≡ true → g a ≡ true) → (l : List A) → every f l ≡ true → every g l ≡ true
+  unfolding every
+  every-more h [] e = refl
+  every-more h (a ∷ l) e =
+      let p = both (f a) (every f l) e in
+      rw (h a (p .0)) (every-more h l (p .1))
+
+  pub every-none : ((a : A) → f a ≡ true → g a ≡ false) → (l : List A) → every f l ≡ true → any g l ≡ false
+  unfolding every any
+  every-none h [] e = refl
+  every-none h (a ∷ l) e =
+      let p = both (f a) (every f l) e in
+      rw (h a (p .0)) (every-none h l (p .1))
+
+-- some element of a list of lists
+pub any-flatMap : {A B : Type 0} (f : B → Bool) (g : A → List B) (l : List A) → any f (flatMap g l) ≡ any (λ a. any f (g a)) l
+unfolding any flatMap
+any-flatMap f g [] = refl
+any-flatMap f g (a ∷ l) = any-append f (g a) (flatMap g l) ∙ ap (λ (b : Bool). any f (g a) || b) (any-flatMap f g l)
 
 -- ---- a loop that tests the first n elements of a list: one turn, and its end
 
@@ -117,3 +206,13 @@ pub empty-length : {A : Type 0} (l : List A) → isEmpty l ≡ eqb (length l) 0
 unfolding isEmpty
 empty-length [] = refl
 empty-length (a ∷ l) = sym (ne-eqb (suc (length l)) 0 (λ e. omega arith))
+
+-- the first n of an array's elements
+pub none-taken : {A : Type 0} (l : List A) (n : ℕ) → n ≡ 0 → isEmpty (take n l) ≡ true
+unfolding isEmpty
+none-taken l n e = rw e
+
+pub some-taken : {A : Type 0} (l : List A) (n : ℕ) → n ≤ length l → (n ≡ 0 → ⊥) → isEmpty (take n l) ≡ false
+some-taken l n fits some =
+    let long : length (take n l) ≡ n = length-take-le n l fits in
+    empty-length (take n l) ∙ ne-eqb (length (take n l)) 0 (λ z. some (omega arith))

@@ -1,15 +1,6 @@
--- Laws of tests and of the choices by them, by the cases of a Bool. Assumes nothing.
+-- Laws of tests, by the cases of a Bool. Assumes nothing.
 use mathlib.Core.Path.{_≡_, refl, sym, _∙_}
-use mathlib.Core.Bool.{Bool, true, false, cond, _&&_, _||_, true≢false, false≢true}
-use mathlib.Core.Logic.{_⊎_, inl, inr}
-
--- ---- a choice
-
-pub pick-yes : {A : Type 0} {b : Bool} (x y : A) → b ≡ true → cond b x y ≡ x
-pick-yes x y e = rw e
-
-pub pick-no : {A : Type 0} {b : Bool} (x y : A) → b ≡ false → cond b x y ≡ y
-pick-no x y e = rw e
+use mathlib.Core.Bool.{Bool, true, false, _&&_, _||_, true≢false}
 
 -- ---- and
 
@@ -17,22 +8,7 @@ pub and-no : (a b : Bool) → b ≡ false → a && b ≡ false
 and-no true b e = e
 and-no false b e = refl
 
-pub and-parts : (a b : Bool) → a && b ≡ true → (a ≡ true) × (b ≡ true)
-and-parts true b e = (refl, e)
-and-parts false b e = absurd (false≢true e)
-
-pub and-both : {a b : Bool} → a ≡ true → b ≡ true → a && b ≡ true
-and-both e g = rw e g
-
 -- ---- or
-
-pub or-false : (a b : Bool) → a || b ≡ false → (a ≡ false) × (b ≡ false)
-or-false true b e = absurd (true≢false e)
-or-false false b e = (refl, e)
-
-pub or-true : (a b : Bool) → a || b ≡ true → (a ≡ true) ⊎ (b ≡ true)
-or-true true b e = inl refl
-or-true false b e = inr e
 
 pub no-or : {a b : Bool} → a ≡ false → b ≡ false → a || b ≡ false
 no-or e g = rw e g

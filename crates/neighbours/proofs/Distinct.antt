@@ -9,11 +9,11 @@ use borrow.Author.Tests.{eqb-true, eqb-false, eq-eqb, ne-eqb}
 use lib.Dec.{eqb}
 use lib.ListN.{length}
 use Rattle.lists.specs.Lists.{any, member}
-use Rattle.lists.proofs.Tests.{any-snoc}
+use Rattle.lists.proofs.Tests.{neither, either, any-snoc}
 use Rattle.neighbours.specs.Search.{Distinct, Within}
-use Rattle.neighbours.proofs.Choice.{or-false, or-true, no-or, or-right, or-mono, contrary}
+use Rattle.neighbours.proofs.Choice.{no-or, or-right, or-mono, contrary}
 
-apart : (x y : ℕ) → eqb x y ≡ false → eqb y x ≡ false
+pub apart : (x y : ℕ) → eqb x y ≡ false → eqb y x ≡ false
 apart x y e = ne-eqb y x (λ p. eqb-false x y e (sym p))
 
 -- ---- one element more
@@ -25,12 +25,12 @@ pub distinct-snoc : (l : List ℕ) (x : ℕ) → Distinct l → member x l ≡ f
 unfolding any
 distinct-snoc [] x d e = (refl, tt)
 distinct-snoc (y ∷ l) x d e =
-    let g = or-false (eqb y x) (member x l) e in
+    let g = neither (eqb y x) (member x l) e in
     (member-snoc y l x ∙ no-or (d .0) (apart y x (g .0)), distinct-snoc l x (d .1) (g .1))
 
 pub within-snoc : (a n : ℕ) (l : List ℕ) (x : ℕ) → Within a n l → a ≤ x → x < a + n → Within a n (l ++ x ∷ [])
 within-snoc a n l x w h g p e =
-    ⊎-elim (w p) (λ q. let r : x ≡ p = eqb-true x p q in (omega arith, omega arith)) (or-true (member p l) (eqb x p) (sym (member-snoc p l x) ∙ e))
+    ⊎-elim (w p) (λ q. let r : x ≡ p = eqb-true x p q in (omega arith, omega arith)) (either (member p l) (eqb x p) (sym (member-snoc p l x) ∙ e))
 
 -- ---- the pigeonhole
 

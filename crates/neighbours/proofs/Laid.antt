@@ -1,12 +1,12 @@
 -- Laws of the neighbours laid flat: at most 40 of each point, since their slots are distinct and below 40, and one point more. Assumes nothing.
-use Prim.Native.Nat.{ℕ, zero, suc, _+_, _-_, _*_, _≤_, _<_, zero-le}
+use Prim.Native.Nat.{ℕ, suc, _+_, _-_, _*_, _≤_, _<_, zero-le}
 use mathlib.Core.Path.{_≡_, refl, sym, ap, _∙_}
 use mathlib.Core.Bool.{false≢true}
 use mathlib.Core.List.{List, [], _∷_, _++_, map, map-append, flatMap, append-assoc}
 use native.Mathlib.Omega.{arith}
 use lib.ListN.{length, getD, set, take, drop, replicate, length-append, length-map}
 use lib.Seq.{append-snoc, take-at, drop-at, getD-take}
-use Rattle.lists.specs.Lists.{any, from, filled}
+use Rattle.lists.specs.Lists.{any, from, filled, Each}
 use Rattle.lists.proofs.Ranges.{from-snoc, length-from}
 use Rattle.lists.proofs.Filled.{length-filled, set-filled-at}
 use Rattle.lists.proofs.Collect.{flatMap-append}
@@ -17,22 +17,16 @@ use Rattle.neighbours.specs.declared.Found.{Found}
 use Rattle.neighbours.specs.declared.ImagNbrs.{ImagNbrs}
 use Rattle.neighbours.proofs.Distinct.{distinct-snoc, within-snoc, pigeonhole}
 use Rattle.neighbours.proofs.Holds.{slots-long}
-use Rattle.neighbours.proofs.Sound.{Each, each-from, foldl-keeps, reach-keeps, across-keeps, pass-keeps, passes-keeps}
+use Rattle.lists.proofs.Each.{each-imply, each-map, each-from, each-filled, length-rows}
+use Rattle.neighbours.proofs.Sound.{reach-keeps, pass-always, passes-keeps}
 
 -- ---- the slots found
-
-pub each-unit : {A : Type 0} (l : List A) → Each (λ _. Unit) l
-each-unit [] = tt
-each-unit (x ∷ l) = (tt, each-unit l)
 
 -- what every point keeps, the search keeps
 pub search-keeps : (P : Reach → Type 0) (l : List ℕ) (ts : List (List ℕ)) → ((r : Reach) (p : ℕ) → P r → P (reach l r p))
     → (p : ℕ) → P (record { visited = p ∷ []; nbrs = [] }) → (Q : List ℕ → Type 0) → ((r : Reach) → P r → Q (r .nbrs)) → Q (neighboursOf l ts p)
 unfolding neighboursOf
-search-keeps P l ts k p h Q f =
-    f _ (passes-keeps P l ts
-    (λ r g. pass-keeps P l ts (λ _. Unit) (λ s ps _ m. across-keeps P l s ps m (λ _. foldl-keeps P (λ _. Unit) (reach l) (λ b a _ n. k b a n) ps (each-unit ps) s m)) (each-unit ts) r g)
-    14 (record { visited = p ∷ []; nbrs = [] }) h)
+search-keeps P l ts k p h Q f = f _ (passes-keeps P l ts (pass-always P l ts k) 14 (record { visited = p ∷ []; nbrs = [] }) h)
 
 module _ (l : List ℕ) (ts : List (List ℕ)) (p : ℕ) where
   -- each neighbour is listed once
@@ -56,25 +50,12 @@ module _ (l : List ℕ) (ts : List (List ℕ)) (p : ℕ) where
 -- ---- rows of n in a flat list
 
 module _ {A : Type 0} (n : ℕ) (z : A) where
-  length-rows : (ls : List (List A)) → Each (λ x. length x ≤ n) ls → length (flatMap (filled n z) ls) ≡ length ls * n
-  unfolding flatMap
-  length-rows [] e = omega arith
-  length-rows (x ∷ ls) e = omega (arith, length-append (filled n z x) (flatMap (filled n z) ls), length-filled n z x (e .0), length-rows ls (e .1))
-
-  each-filled : (m : ℕ) (ls : List (List A)) → Each (λ x. length x ≤ n) ls → Each (λ x. length x ≤ n) (filled m [] ls)
-  unfolding filled
-  each-filled m ls e = more ls (m - length ls) e
-    where
-      none : (i : ℕ) → Each {A = List A} (λ x. length x ≤ n) (replicate i [])
-      none zero = tt
-      none (suc i) = (zero-le, none i)
-
-      more : (l : List (List A)) (i : ℕ) → Each (λ x. length x ≤ n) l → Each {A = List A} (λ x. length x ≤ n) (l ++ replicate i [])
-      more [] i e = none i
-      more (x ∷ l) i e = (e .0, more l i (e .1))
+  rows-wide : (ls : List (List A)) → Each (λ x. length x ≤ n) ls → length (flatMap (filled n z) ls) ≡ length ls * n
+  rows-wide ls e = length-rows n (filled n z) ls (each-imply (λ x. length x ≤ n) (λ x. length (filled n z x) ≡ n) (length-filled n z) ls e)
 
   pub rows-long : (m : ℕ) (ls : List (List A)) → Each (λ x. length x ≤ n) ls → length ls ≤ m → length (flatMap (filled n z) (filled m [] ls)) ≡ m * n
-  rows-long m ls e h = length-rows (filled m [] ls) (each-filled m ls e) ∙ ap (λ (i : ℕ). i * n) (length-filled m [] ls h)
+  rows-long m ls e h =
+      rows-wide (filled m [] ls) (each-filled (λ x. length x ≤ n) m [] ls zero-le e) ∙ ap (λ (i : ℕ). i * n) (length-filled m [] ls h)
 
   -- a row more writes over an empty one
   pub rows-more : (m k : ℕ) (ls : List (List A)) (x : List A) → Each (λ y. length y ≤ n) ls → length ls ≡ k → k < m
@@ -87,7 +68,7 @@ module _ {A : Type 0} (n : ℕ) (z : A) where
       let o : List A = filled n z [] in
       let u : m - length (ls ++ x ∷ []) ≡ m - suc k = omega (arith, length-append ls (x ∷ [])) in
       let v : m - length ls ≡ suc (m - suc k) = omega arith in
-      let w : length a ≡ k * n = length-rows ls e ∙ ap (λ (i : ℕ). i * n) h in
+      let w : length a ≡ k * n = rows-wide ls e ∙ ap (λ (i : ℕ). i * n) h in
       let t : length (a ++ o) ≡ k * n + n = omega (arith, length-append a o, length-filled n z [] zero-le) in
       let new : flatMap (filled n z) (ls ++ x ∷ [] ++ replicate (m - length (ls ++ x ∷ [])) []) ≡ a ++ filled n z x ++ c =
       ap (λ (i : ℕ). flatMap (filled n z) (ls ++ x ∷ [] ++ replicate i [])) u
@@ -134,7 +115,8 @@ module _ (l : List ℕ) (ts : List (List ℕ)) where
   module _ (low : (i : ℕ) → i < length l → getD l i 0 < 40) (k : ℕ) where
     few : Each (λ y. length y ≤ 40) (lists k)
     unfolding lists
-    few = each-from (λ y. length y ≤ 40) (neighboursOf l ts) (length l) k (λ q g f. neighbours-few l ts q low)
+    few =
+        each-map (λ y. length y ≤ 40) (neighboursOf l ts) (from (length l) k) (each-from (λ q. length (neighboursOf l ts q) ≤ 40) (length l) k (λ q g f. neighbours-few l ts q low))
 
     pub imag-long : k ≤ 14 → length (neighboursIn l ts k .«imag_nbrs») ≡ 560
     unfolding neighboursIn lists

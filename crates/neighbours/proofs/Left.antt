@@ -6,16 +6,17 @@ use mathlib.Core.List.{List, [], _∷_}
 use native.Mathlib.Omega.{arith}
 use lib.Dec.{eqb}
 use lib.ListN.{length, set, take, replicate, getD-replicate, length-replicate}
-use Rattle.lists.specs.Lists.{any, range, part}
+use Rattle.lists.specs.Lists.{any, range, part, Each}
 use Rattle.lists.proofs.Parts.{part-three}
 use Rattle.lists.proofs.Filled.{filled-none}
+use Rattle.lists.proofs.Each.{each-map, each-range}
 use Rattle.neighbours.specs.Neighbours.{Reach, pass, passes, neighboursOf}
 use Rattle.neighbours.specs.Flat.{triplesIn, Numbered}
 use Rattle.neighbours.specs.Search.{Holds, Points, Slots, foundIn}
 use Rattle.neighbours.specs.declared.Counts.{Counts}
 use Rattle.neighbours.specs.declared.Found.{Found}
 use Rattle.neighbours.proofs.Holds.{slots-long, none-found, holds-point, seen-few}
-use Rattle.neighbours.proofs.Sound.{Each, each-from, Low, Visited, ends, passes-done, passes-on, one-more, enough}
+use Rattle.neighbours.proofs.Sound.{Low, Visited, ends, passes-done, passes-on, one-more, enough}
 
 -- ---- the points of the triplets
 
@@ -26,8 +27,8 @@ module _ {idx : List ℕ} {tris nreal : ℕ} (ps : Points idx tris nreal) where
       (ps .low (t * 3) (omega arith), (ps .low (t * 3 + 1) (omega arith), (ps .low (t * 3 + 2) (omega arith), tt)))
 
   pub low-triples : Low nreal (triplesIn tris idx)
-  unfolding triplesIn range
-  low-triples = each-from (Each (λ p. p < nreal + 14)) (part 3 idx) 0 tris (λ k g h. low-part k (omega arith))
+  unfolding triplesIn
+  low-triples = each-map (Each (λ p. p < nreal + 14)) (part 3 idx) (range tris) (each-range (λ k. Each (λ p. p < nreal + 14) (part 3 idx k)) tris low-part)
 
 -- what `neighbours` asks, for the search
 pub points-of : {idx out : List ℕ} {tris nreal n : ℕ} → Numbered idx tris out nreal n → length idx ≡ 240 → Points idx tris nreal

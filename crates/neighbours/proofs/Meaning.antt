@@ -8,14 +8,16 @@ use native.Mathlib.Omega.{arith}
 use borrow.Author.Tests.{eqb-true, eq-eqb, ltb-true, ltb-false}
 use lib.Dec.{eqb, ltb}
 use lib.ListN.{length, getD, length-append}
-use Rattle.lists.specs.Lists.{any, every, member, isEmpty}
+use Rattle.lists.specs.Lists.{any, every, member, isEmpty, Each}
 use Rattle.neighbours.specs.Neighbours.{Reach, reach, across, pass, passes, neighboursOf}
 use Rattle.neighbours.specs.Meaning.{share, Linked, here, next, StandsIn, Neighbourhood, Placed, Complete}
-use Rattle.neighbours.proofs.Choice.{pick-yes, and-parts, and-both, or-true, or-left, or-right}
+use Rattle.neighbours.proofs.Choice.{or-left, or-right}
 use Rattle.neighbours.proofs.Distinct.{member-snoc, member-here}
 use Rattle.neighbours.proofs.Reaches.{reach-found, reach-visits}
-use Rattle.neighbours.proofs.Sound.{Each, foldl-keeps, reach-keeps, across-keeps, pass-keeps, passes-keeps, Visited, visited-few, Low, after, ends, passes-done, passes-on, one-more, enough}
-use Rattle.neighbours.proofs.Laid.{each-unit, neighbours-distinct}
+use Rattle.lists.proofs.Tests.{both, and-both, either, cond-yes}
+use Rattle.lists.proofs.Each.{each-member, each-every, each-imply, foldl-keeps, foldl-always}
+use Rattle.neighbours.proofs.Sound.{reach-keeps, across-keeps, across-always, pass-keeps, pass-always, passes-keeps, Visited, visited-few, Low, after, ends, passes-done, passes-on, one-more, enough}
+use Rattle.neighbours.proofs.Laid.{neighbours-distinct}
 
 -- ---- members
 
@@ -25,12 +27,7 @@ member-more p l x e = member-snoc p l x ∙ or-left (member p l) (eqb x p) e
 member-end : (l : List ℕ) (x : ℕ) → member x (l ++ x ∷ []) ≡ true
 member-end l x = member-snoc x l x ∙ or-right (member x l) (eqb x x) (eq-eqb x x refl)
 
--- the members of a list have what each of its elements has, and the other way round
-each-at : (Q : ℕ → Type 0) (l : List ℕ) → Each Q l → (p : ℕ) → member p l ≡ true → Q p
-unfolding any
-each-at Q [] e p m = absurd (false≢true m)
-each-at Q (x ∷ l) e p m = ⊎-elim (λ g. subst Q (eqb-true x p g) (e .0)) (each-at Q l (e .1) p) (or-true (eqb x p) (member p l) m)
-
+-- what members have, each element has
 each-of : (Q : ℕ → Type 0) (l : List ℕ) → ((p : ℕ) → member p l ≡ true → Q p) → Each Q l
 unfolding any
 each-of Q [] f = tt
@@ -41,13 +38,13 @@ some-of : (f : ℕ → Bool) (l : List ℕ) → any f l ≡ true → (q : ℕ) �
 unfolding any
 some-of f [] e = absurd (false≢true e)
 some-of f (x ∷ l) e =
-    ⊎-elim (λ g. (x, member-here x l, g)) (λ g. let r = some-of f l g in (r .0, or-right (eqb x (r .0)) (member (r .0) l) (r .1), r .2)) (or-true (f x) (any f l) e)
+    ⊎-elim (λ g. (x, member-here x l, g)) (λ g. let r = some-of f l g in (r .0, or-right (eqb x (r .0)) (member (r .0) l) (r .1), r .2)) (either (f x) (any f l) e)
 
 of-some : (f : ℕ → Bool) (l : List ℕ) (q : ℕ) → member q l ≡ true → f q ≡ true → any f l ≡ true
 unfolding any
 of-some f [] q m e = m
 of-some f (x ∷ l) q m e =
-    ⊎-elim (λ g. or-left (f x) (any f l) (ap f (eqb-true x q g) ∙ e)) (λ g. or-right (f x) (any f l) (of-some f l q g e)) (or-true (eqb x q) (member q l) m)
+    ⊎-elim (λ g. or-left (f x) (any f l) (ap f (eqb-true x q g) ∙ e)) (λ g. or-right (f x) (any f l) (of-some f l q g e)) (either (eqb x q) (member q l) m)
 
 some-in : (q : ℕ) (l : List ℕ) → member q l ≡ true → not (isEmpty l) ≡ true
 unfolding any isEmpty
@@ -70,7 +67,7 @@ share-each : (Q : List ℕ → Type 0) (us : List (List ℕ)) → Each Q us → 
 unfolding share any
 share-each Q [] e q s h = absurd (false≢true h)
 share-each Q (ps ∷ us) e q s h =
-    ⊎-elim (λ g. let m = and-parts (member q ps) (member s ps) g in (ps, e .0, m .0, m .1)) (share-each Q us (e .1) q s) (or-true (member q ps && member s ps) (share us q s) h)
+    ⊎-elim (λ g. let m = both (member q ps) (member s ps) g in (ps, e .0, m .0, m .1)) (share-each Q us (e .1) q s) (either (member q ps && member s ps) (share us q s) h)
 
 module _ (l : List ℕ) (ts : List (List ℕ)) where
   -- ---- what stands in
@@ -88,10 +85,10 @@ module _ (l : List ℕ) (ts : List (List ℕ)) where
           linked = f .linked;
           stands = λ s m. ⊎-elim (f .stands s)
               (λ o. record { point = q; linked = k; real = x; below = g; shares = h; slot = eqb-true (getD l x 0) s o })
-              (or-true (member s (r .nbrs)) (eqb (getD l x 0) s) (sym (member-snoc s (r .nbrs) (getD l x 0)) ∙ m));
+              (either (member s (r .nbrs)) (eqb (getD l x 0) s) (sym (member-snoc s (r .nbrs) (getD l x 0)) ∙ m));
         })
         (λ g e d. record {
-          linked = λ s m. ⊎-elim (f .linked s) (λ o. subst (Linked l ts p) (eqb-true x s o) (next k h g)) (or-true (member s (r .visited)) (eqb x s) (sym (member-snoc s (r .visited) x) ∙ m));
+          linked = λ s m. ⊎-elim (f .linked s) (λ o. subst (Linked l ts p) (eqb-true x s o) (next k h g)) (either (member s (r .visited)) (eqb x s) (sym (member-snoc s (r .visited) x) ∙ m));
           stands = f .stands;
         })
 
@@ -109,15 +106,12 @@ module _ (l : List ℕ) (ts : List (List ℕ)) where
         (λ r f. pass-keeps Found-so-far l ts (λ ps. (q s : ℕ) → member q ps ≡ true → member s ps ≡ true → share ts q s ≡ true) found-across (each-share (λ q s. share ts q s ≡ true) ts (λ q s e. e)) r f)
         14 (record { visited = p ∷ []; nbrs = [] })
         (record {
-          linked = λ q m. ⊎-elim (λ o. subst (Linked l ts p) (eqb-true p q o) here) (λ o. absurd (false≢true o)) (or-true (eqb p q) false m);
+          linked = λ q m. ⊎-elim (λ o. subst (Linked l ts p) (eqb-true p q o) here) (λ o. absurd (false≢true o)) (either (eqb p q) false m);
           stands = λ s m. absurd (false≢true m);
         })
         .stands
 
   -- ---- p's own triplets
-
-  across-all : (P : Reach → Type 0) → ((r : Reach) (x : ℕ) → P r → P (reach l r x)) → (r : Reach) (ps : List ℕ) → P r → P (across l r ps)
-  across-all P k r ps h = across-keeps P l r ps h (λ _. foldl-keeps P (λ _. Unit) (reach l) (λ b x _ g. k b x g) ps (each-unit ps) r h)
 
   slot-stays : (s : ℕ) (r : Reach) (x : ℕ) → member s (r .nbrs) ≡ true → member s (reach l r x .nbrs) ≡ true
   slot-stays s r x h = reach-keeps (λ b. member s (b .nbrs) ≡ true) l r x h (λ g e. member-more s (r .nbrs) (getD l x 0) h) (λ g e d. h)
@@ -139,25 +133,25 @@ module _ (l : List ℕ) (ts : List (List ℕ)) where
     fold-slot [] r m = absurd (false≢true m)
     fold-slot (x ∷ ps) r m =
         ⊎-elim
-        (λ e. foldl-keeps (λ b. member (getD l q 0) (b .nbrs) ≡ true) (λ _. Unit) (reach l) (λ b y _ g. slot-stays (getD l q 0) b y g) ps (each-unit ps) (reach l r x)
+        (λ e. foldl-always (λ b. member (getD l q 0) (b .nbrs) ≡ true) (reach l) (slot-stays (getD l q 0)) ps (reach l r x)
         (subst (λ (y : ℕ). member (getD l q 0) (reach l r y .nbrs) ≡ true) (sym (eqb-true x q e)) (reach-slot r)))
-        (fold-slot ps (reach l r x)) (or-true (eqb x q) (member q ps) m)
+        (fold-slot ps (reach l r x)) (either (eqb x q) (member q ps) m)
 
     across-slot : (p : ℕ) (r : Reach) (ps : List ℕ) → member p (r .visited) ≡ true → member p ps && member q ps ≡ true → member (getD l q 0) (across l r ps .nbrs) ≡ true
     unfolding across
     across-slot p r ps v m =
-        let n = and-parts (member p ps) (member q ps) m in
-        ap (λ (x : Reach). member (getD l q 0) (x .nbrs)) (pick-yes (foldl (reach l) r ps) r (of-some (λ x. member x (r .visited)) ps p (n .0) v)) ∙ fold-slot ps r (n .1)
+        let n = both (member p ps) (member q ps) m in
+        ap (λ (x : Reach). member (getD l q 0) (x .nbrs)) (cond-yes (foldl (reach l) r ps) r (of-some (λ x. member x (r .visited)) ps p (n .0) v)) ∙ fold-slot ps r (n .1)
 
     pass-slot : (p : ℕ) (us : List (List ℕ)) (r : Reach) → member p (r .visited) ≡ true → share us p q ≡ true → member (getD l q 0) (foldl (across l) r us .nbrs) ≡ true
     unfolding share any
     pass-slot p [] r v h = absurd (false≢true h)
     pass-slot p (ps ∷ us) r v h =
         ⊎-elim
-        (λ e. foldl-keeps (λ b. member (getD l q 0) (b .nbrs) ≡ true) (λ _. Unit) (across l) (λ b y _ g. across-all (λ s. member (getD l q 0) (s .nbrs) ≡ true) (slot-stays (getD l q 0)) b y g) us (each-unit us)
+        (λ e. foldl-always (λ b. member (getD l q 0) (b .nbrs) ≡ true) (across l) (across-always (λ s. member (getD l q 0) (s .nbrs) ≡ true) l (slot-stays (getD l q 0))) us
         (across l r ps) (across-slot p r ps v e))
-        (pass-slot p us (across l r ps) (across-all (λ s. member p (s .visited) ≡ true) (point-stays p) r ps v))
-        (or-true (member p ps && member q ps) (share us p q) h)
+        (pass-slot p us (across l r ps) (across-always (λ s. member p (s .visited) ≡ true) l (point-stays p) r ps v))
+        (either (member p ps && member q ps) (share us p q) h)
 
     own-slot : (p : ℕ) → share ts p q ≡ true → member (getD l q 0) (neighboursOf l ts p) ≡ true
     unfolding neighboursOf pass
@@ -185,7 +179,7 @@ module _ (l : List ℕ) (ts : List (List ℕ)) where
   reach-grows n r x h = ⊎-elim (λ e. subst (λ (s : Reach). n ≤ size s) (sym e) h) (λ g. omega arith) (reach-size r x)
 
   across-grows : (n : ℕ) (r : Reach) (ps : List ℕ) → n ≤ size r → n ≤ size (across l r ps)
-  across-grows n r ps h = across-all (λ s. n ≤ size s) (reach-grows n) r ps h
+  across-grows n r ps h = across-always (λ s. n ≤ size s) l (reach-grows n) r ps h
 
   -- where a fold does not grow, every step of it stays
   fold-still : {A : Type 0} (f : Reach → A → Reach) → ((r : Reach) (x : A) → (f r x ≡ r) ⊎ (size r < size (f r x))) → ((n : ℕ) (r : Reach) (x : A) → n ≤ size r → n ≤ size (f r x))
@@ -196,21 +190,21 @@ module _ (l : List ℕ) (ts : List (List ℕ)) where
       (λ e.
       let i = fold-still f a g xs r (subst (λ (s : Reach). size (foldl f s xs) ≤ size r) e h) in
       ((e, i .0), ap (λ (s : Reach). foldl f s xs) e ∙ i .1))
-      (λ b. let m = foldl-keeps (λ s. size (f r x) ≤ size s) (λ _. Unit) f (λ s y _ k. g (size (f r x)) s y k) xs (each-unit xs) (f r x) (omega arith) in absurd (omega arith))
+      (λ b. let m = foldl-always (λ s. size (f r x) ≤ size s) f (g (size (f r x))) xs (f r x) (omega arith) in absurd (omega arith))
       (a r x)
 
   across-size : (r : Reach) (ps : List ℕ) → (across l r ps ≡ r) ⊎ (size r < size (across l r ps))
   across-size r ps =
       across-keeps (λ s. (s ≡ r) ⊎ (size r < size s)) l r ps (inl refl)
-      (λ _. foldl-keeps (λ s. (s ≡ r) ⊎ (size r < size s)) (λ _. Unit) (reach l)
-      (λ b x _ h. ⊎-elim (λ e. subst (λ (s : Reach). (reach l s x ≡ r) ⊎ (size r < size (reach l s x))) (sym e) (reach-size r x)) (λ k. inr (reach-grows (suc (size r)) b x k)) h)
-      ps (each-unit ps) r (inl refl))
+      (λ _. foldl-always (λ s. (s ≡ r) ⊎ (size r < size s)) (reach l)
+      (λ b x h. ⊎-elim (λ e. subst (λ (s : Reach). (reach l s x ≡ r) ⊎ (size r < size (reach l s x))) (sym e) (reach-size r x)) (λ k. inr (reach-grows (suc (size r)) b x k)) h)
+      ps r (inl refl))
 
   -- a triplet with a visited point, of which every point stays
   across-still : (r : Reach) (ps : List ℕ) → across l r ps ≡ r → any (λ x. member x (r .visited)) ps ≡ true → Each (λ x. reach l r x ≡ r) ps
   unfolding across
   across-still r ps e m =
-      let f : foldl (reach l) r ps ≡ r = sym (pick-yes (foldl (reach l) r ps) r m) ∙ e in
+      let f : foldl (reach l) r ps ≡ r = sym (cond-yes (foldl (reach l) r ps) r m) ∙ e in
       fold-still (reach l) reach-size reach-grows ps r (subst (λ (s : Reach). size s ≤ size r) (sym f) (omega arith)) .0
 
   module _ (r : Reach) (none : r .nbrs ≡ []) (still : pass l ts r ≡ r) where
@@ -219,7 +213,7 @@ module _ (l : List ℕ) (ts : List (List ℕ)) where
     stays q x v h =
         let a = fold-still (across l) across-size across-grows ts r (subst (λ (s : Reach). size s ≤ size r) (sym still) (omega arith)) .0 in
         let t = share-each (λ ps. across l r ps ≡ r) ts a q x h in
-        each-at (λ y. reach l r y ≡ r) (t .0) (across-still r (t .0) (t .1) (of-some (λ y. member y (r .visited)) (t .0) q (t .2) v)) x (t .3)
+        each-member (λ y. reach l r y ≡ r) (t .0) x (across-still r (t .0) (t .1) (of-some (λ y. member y (r .visited)) (t .0) q (t .2) v)) (t .3)
 
     no-slot : (x : ℕ) → reach l r x ≡ r → length l ≤ x
     unfolding any
@@ -246,16 +240,10 @@ module _ (l : List ℕ) (ts : List (List ℕ)) where
   -- ---- the last pass
 
   low-points : every (every (λ q. ltb q (length l + 14))) ts ≡ true → Low (length l) ts
-  unfolding every
-  low-points e = all ts e
-    where
-      one : (ps : List ℕ) → every (λ q. ltb q (length l + 14)) ps ≡ true → Each (λ q. q < length l + 14) ps
-      one [] e = tt
-      one (x ∷ ps) e = let m = and-parts (ltb x (length l + 14)) (every (λ q. ltb q (length l + 14)) ps) e in (ltb-true _ _ (m .0), one ps (m .1))
-
-      all : (us : List (List ℕ)) → every (every (λ q. ltb q (length l + 14))) us ≡ true → Low (length l) us
-      all [] e = tt
-      all (ps ∷ us) e = let m = and-parts (every (λ q. ltb q (length l + 14)) ps) (every (every (λ q. ltb q (length l + 14))) us) e in (one ps (m .0), all us (m .1))
+  low-points e =
+      let low : ℕ → Bool = λ q. ltb q (length l + 14) in
+      each-imply (λ ps. every low ps ≡ true) (Each (λ q. q < length l + 14))
+      (λ ps g. each-imply (λ q. low q ≡ true) (λ q. q < length l + 14) (λ q k. ltb-true q (length l + 14) k) ps (each-every low ps g)) ts (each-every (every low) ts e)
 
   module _ (p : ℕ) (h : Placed l ts p) where
     low : Low (length l) ts
@@ -266,7 +254,7 @@ module _ (l : List ℕ) (ts : List (List ℕ)) where
     begin = record {
       once = (refl, tt);
       imaginary = λ q m.
-          ⊎-elim (λ o. let e : p ≡ q = eqb-true p q o in let a = h .imaginary in let b = h .few in (omega arith, omega arith)) (λ o. absurd (false≢true o)) (or-true (eqb p q) false m);
+          ⊎-elim (λ o. let e : p ≡ q = eqb-true p q o in let a = h .imaginary in let b = h .few in (omega arith, omega arith)) (λ o. absurd (false≢true o)) (either (eqb p q) false m);
       more = omega arith;
     }
 
@@ -275,7 +263,7 @@ module _ (l : List ℕ) (ts : List (List ℕ)) where
     last-pass zero r v g k = let f = visited-few v in absurd (omega arith)
     last-pass (suc m) r v g k =
         by (ends r (pass l ts r)) refl
-        (λ e. let f = one-more l ts low r v e in last-pass m (pass l ts r) (after l ts low r v) (omega arith) (pass-keeps (λ s. member p (s .visited) ≡ true) l ts (λ _. Unit) (λ s ps _ n. across-all (λ b. member p (b .visited) ≡ true) (point-stays p) s ps n) (each-unit ts) r k))
+        (λ e. let f = one-more l ts low r v e in last-pass m (pass l ts r) (after l ts low r v) (omega arith) (pass-always (λ s. member p (s .visited) ≡ true) l ts (point-stays p) r k))
       where
         by : (b : Bool) → ends r (pass l ts r) ≡ b
             → (ends r (pass l ts r) ≡ false → (x : Reach) × (member p (x .visited) ≡ true) × (ends x (pass l ts x) ≡ true) × (passes l ts m (pass l ts r) ≡ pass l ts x))

@@ -6,8 +6,9 @@ use mathlib.Core.List.{List, [], _∷_, _++_}
 use borrow.Author.Tests.{lt-ltb, le-ltb}
 use lib.ListN.{length, getD}
 use Rattle.lists.specs.Lists.{member, isEmpty}
+use Rattle.lists.proofs.Tests.{cond-yes, cond-no}
 use Rattle.neighbours.specs.Neighbours.{Reach, reach}
-use Rattle.neighbours.proofs.Choice.{pick-yes, pick-no, and-no}
+use Rattle.neighbours.proofs.Choice.{and-no}
 
 -- the state with a slot more, and with a point more
 abbrev pub withSlot : Reach → ℕ → Reach
@@ -19,20 +20,20 @@ withPoint r p = record { visited = r .visited ++ p ∷ []; nbrs = r .nbrs }
 module _ (l : List ℕ) (r : Reach) (p : ℕ) where
   pub reach-listed : p < length l → member (getD l p 0) (r .nbrs) ≡ true → reach l r p ≡ r
   unfolding reach
-  reach-listed h e = pick-yes _ _ (lt-ltb _ _ h) ∙ pick-yes _ _ e
+  reach-listed h e = cond-yes _ _ (lt-ltb _ _ h) ∙ cond-yes _ _ e
 
   pub reach-found : p < length l → member (getD l p 0) (r .nbrs) ≡ false → reach l r p ≡ withSlot r (getD l p 0)
   unfolding reach
-  reach-found h e = pick-yes _ _ (lt-ltb _ _ h) ∙ pick-no _ _ e
+  reach-found h e = cond-yes _ _ (lt-ltb _ _ h) ∙ cond-no _ _ e
 
   pub reach-seen : length l ≤ p → member p (r .visited) ≡ true → reach l r p ≡ r
   unfolding reach
-  reach-seen h e = pick-no _ _ (le-ltb _ _ h) ∙ pick-no _ _ (ap (λ (b : Bool). not b && isEmpty (r .nbrs)) e)
+  reach-seen h e = cond-no _ _ (le-ltb _ _ h) ∙ cond-no _ _ (ap (λ (b : Bool). not b && isEmpty (r .nbrs)) e)
 
   pub reach-late : length l ≤ p → isEmpty (r .nbrs) ≡ false → reach l r p ≡ r
   unfolding reach
-  reach-late h e = pick-no _ _ (le-ltb _ _ h) ∙ pick-no (withPoint r p) r (and-no (not (member p (r .visited))) (isEmpty (r .nbrs)) e)
+  reach-late h e = cond-no _ _ (le-ltb _ _ h) ∙ cond-no (withPoint r p) r (and-no (not (member p (r .visited))) (isEmpty (r .nbrs)) e)
 
   pub reach-visits : length l ≤ p → member p (r .visited) ≡ false → isEmpty (r .nbrs) ≡ true → reach l r p ≡ withPoint r p
   unfolding reach
-  reach-visits h e g = pick-no _ _ (le-ltb _ _ h) ∙ pick-yes _ _ (ap (λ (b : Bool). not b && isEmpty (r .nbrs)) e ∙ g)
+  reach-visits h e g = cond-no _ _ (le-ltb _ _ h) ∙ cond-yes _ _ (ap (λ (b : Bool). not b && isEmpty (r .nbrs)) e ∙ g)

@@ -2,34 +2,20 @@
 use Prim.Native.Nat.{ℕ, zero, suc, _+_, _≤_, _<_}
 use mathlib.Core.Path.{_≡_, refl, sym, ap, _∙_}
 use mathlib.Core.Bool.{Bool, true, false, cond, not, _&&_, _||_}
-use mathlib.Core.List.{List, [], _∷_, map, foldl}
+use mathlib.Core.List.{List, [], _∷_, foldl}
 use native.Mathlib.Omega.{arith}
 use borrow.Author.Tests.{ltb-true, ltb-false, eqb-false}
 use lib.Dec.{eqb, ltb}
 use lib.ListN.{length, getD, length-append}
-use Rattle.lists.specs.Lists.{any, member, isEmpty, from}
+use Rattle.lists.specs.Lists.{Each, any, member, isEmpty}
+use Rattle.lists.proofs.Tests.{neither}
+use Rattle.lists.proofs.Each.{foldl-keeps, foldl-always}
 use Rattle.neighbours.specs.Neighbours.{Reach, reach, across, pass, passes}
 use Rattle.neighbours.specs.Search.{Distinct, Within}
-use Rattle.neighbours.proofs.Choice.{or-false}
 use Rattle.neighbours.proofs.Distinct.{distinct-snoc, within-snoc, pigeonhole}
 use Rattle.neighbours.proofs.Reaches.{withSlot, withPoint}
 
 -- ---- what steps keep
-
--- every element has the property Q
-abbrev pub Each : {A : Type 0} → (A → Type 0) → List A → Type 0
-Each Q [] = Unit
-Each Q (x ∷ l) = Q x × Each Q l
-
-pub each-from : {A : Type 0} (Q : A → Type 0) (f : ℕ → A) (a n : ℕ) → ((k : ℕ) → a ≤ k → k < a + n → Q (f k)) → Each Q (map f (from a n))
-unfolding from
-each-from Q f a zero g = tt
-each-from Q f a (suc n) g = (g a (omega arith) (omega arith), each-from Q f (suc a) n (λ k h m. g k (omega arith) (omega arith)))
-
-pub foldl-keeps : {A B : Type 0} (P : B → Type 0) (Q : A → Type 0) (f : B → A → B) → ((b : B) (a : A) → Q a → P b → P (f b a))
-    → (l : List A) → Each Q l → (b : B) → P b → P (foldl f b l)
-foldl-keeps P Q f k [] e b h = h
-foldl-keeps P Q f k (a ∷ l) e b h = foldl-keeps P Q f k l (e .1) (f b a) (k b a (e .0) h)
 
 -- a point adds a new slot, visits a new imaginary point, or changes nothing
 pub reach-keeps : (P : Reach → Type 0) (l : List ℕ) (r : Reach) (p : ℕ) → P r
@@ -61,6 +47,13 @@ across-keeps P l r ps h k = by (any (λ p. member p (r .visited)) ps) k
     by : (b : Bool) → (b ≡ true → P (foldl (reach l) r ps)) → P (cond b (foldl (reach l) r ps) r)
     by true k = k refl
     by false k = h
+
+pub across-always : (P : Reach → Type 0) (l : List ℕ) → ((r : Reach) (p : ℕ) → P r → P (reach l r p)) → (r : Reach) (ps : List ℕ) → P r → P (across l r ps)
+across-always P l k r ps h = across-keeps P l r ps h (λ _. foldl-always P (reach l) k ps r h)
+
+pub pass-always : (P : Reach → Type 0) (l : List ℕ) (ts : List (List ℕ)) → ((r : Reach) (p : ℕ) → P r → P (reach l r p)) → (r : Reach) → P r → P (pass l ts r)
+unfolding pass
+pass-always P l ts k r h = foldl-always P (across l) (across-always P l k) ts r h
 
 pub pass-keeps : (P : Reach → Type 0) (l : List ℕ) (ts : List (List ℕ)) (Q : List ℕ → Type 0)
     → ((r : Reach) (ps : List ℕ) → Q ps → P r → P (across l r ps)) → Each Q ts → (r : Reach) → P r → P (pass l ts r)
@@ -134,7 +127,7 @@ module _ (l : List ℕ) (ts : List (List ℕ)) (low : Low (length l) ts) where
     pub one-more : ends r (pass l ts r) ≡ false → length (r .visited) < length (pass l ts r .visited)
     one-more e =
         let w = pass-visited (length (r .visited)) r v in
-        let ne = eqb-false (length (pass l ts r .visited)) (length (r .visited)) (or-false (not (isEmpty (pass l ts r .nbrs))) (eqb (length (pass l ts r .visited)) (length (r .visited))) e .1) in
+        let ne = eqb-false (length (pass l ts r .visited)) (length (r .visited)) (neither (not (isEmpty (pass l ts r .nbrs))) (eqb (length (pass l ts r .visited)) (length (r .visited))) e .1) in
         omega (arith, w .more)
 
   -- more passes change nothing

@@ -7,10 +7,11 @@ use native.Mathlib.Omega.{arith}
 use lib.ListN.{getD, take}
 use Rattle.lists.specs.Lists.{any, member, part}
 use Rattle.lists.proofs.Parts.{part-three}
+use Rattle.lists.proofs.Tests.{cond-yes, cond-no}
 use Rattle.neighbours.specs.Neighbours.{Reach, reach, across}
 use Rattle.neighbours.specs.Search.{Holds, Points, Slots}
 use Rattle.neighbours.specs.declared.Counts.{Counts}
-use Rattle.neighbours.proofs.Choice.{pick-yes, pick-no, or-three}
+use Rattle.neighbours.proofs.Choice.{or-three}
 
 -- the points of triplet t
 abbrev pub first : List ℕ → ℕ → ℕ
@@ -43,9 +44,9 @@ module _ {idx out : List ℕ} {nreal : ℕ} (t : ℕ) (ps : Points idx (t + 1) n
     pub across-meets : getD visited (first idx t) false || getD visited (second idx t) false || getD visited (third idx t) false ≡ true
         → across (take nreal out) r (part 3 idx t) ≡ reach (take nreal out) (reach (take nreal out) (reach (take nreal out) r (first idx t)) (second idx t)) (third idx t)
     unfolding across
-    across-meets e = pick-yes _ _ (meets ∙ e) ∙ ap (foldl (reach (take nreal out)) r) (part-three idx t 0 (omega (arith, ps .long, ps .few)))
+    across-meets e = cond-yes _ _ (meets ∙ e) ∙ ap (foldl (reach (take nreal out)) r) (part-three idx t 0 (omega (arith, ps .long, ps .few)))
 
     pub across-misses : getD visited (first idx t) false || getD visited (second idx t) false || getD visited (third idx t) false ≡ false
         → across (take nreal out) r (part 3 idx t) ≡ r
     unfolding across
-    across-misses e = pick-no _ _ (meets ∙ e)
+    across-misses e = cond-no _ _ (meets ∙ e)

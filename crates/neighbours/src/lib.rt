@@ -1,9 +1,9 @@
 // The real speakers that stand in for each imaginary one.
 // Lengths of arrays: 40 speakers (document 01, refusal 2), 14 imaginary points (vbap.rs line 60), 54 points in all; 80 triplets (refusal 4) of three point numbers are 240, 14 lists of 40 slots are 560.
 ghost use mathlib.Core.Path.{_≡_};
-ghost use Prim.Native.Nat.{ℕ, _+_, _-_, _*_, _≤_, _<_};
-ghost use lib.ListN.{length, getD, take, drop};
-ghost use mathlib.Core.List.{List, _++_};
+ghost use Prim.Native.Nat.{_+_, _-_, _*_, _≤_, _<_};
+ghost use lib.ListN.{length, take, drop};
+ghost use mathlib.Core.List.{_++_};
 ghost use Rattle.lists.specs.Lists.{member, part};
 ghost use Rattle.neighbours.specs.Neighbours.{reach, across, pass, neighboursOf};
 ghost use Rattle.neighbours.specs.Flat.{triplesIn, neighboursIn, Numbered};

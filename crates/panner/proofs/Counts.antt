@@ -8,7 +8,7 @@ use lib.Dec.{ltb, leb}
 use Rattle.lists.specs.Lists.{every, any}
 use Rattle.panner.specs.Malformed.{countsOver}
 use Rattle.panner.specs.declared.VbapPanner.{VbapPanner}
-use Rattle.panner.proofs.Bounds.{neither}
+use Rattle.lists.proofs.Tests.{neither}
 
 pub record Within (v : VbapPanner) : Type 0 where
   pub outputs : v .«num_outputs» ≤ 40

@@ -1,6 +1,5 @@
-pub mod Front
 pub mod Bounds
-pub mod Flat
+pub mod Pairs
 pub mod Counts
 pub mod Numbers
 pub mod Reading

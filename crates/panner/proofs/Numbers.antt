@@ -1,7 +1,7 @@
 -- `numbersOut`, kind by kind, as tests of the used places of the record's arrays. Assumes nothing.
 use Prim.Native.Nat.{ℕ, _+_, _*_, _≤_}
-use mathlib.Core.Path.{_≡_, refl, ap, _∙_}
-use mathlib.Core.Bool.{Bool, true, false, _||_}
+use mathlib.Core.Path.{_≡_, ap, _∙_}
+use mathlib.Core.Bool.{Bool, false, _||_}
 use mathlib.Core.List.{List, [], _∷_, _++_, map, flatMap}
 use lib.Dec.{leb}
 use lib.ListN.{length, getD, take}
@@ -13,7 +13,8 @@ use Rattle.panner.specs.Malformed.{numbersOut, usedSlots, usedPoints}
 use Rattle.panner.specs.declared.Kind.{Kind}
 use Rattle.panner.specs.declared.Kind.the-variants.{Silent, Mono, Planar, Hull}
 use Rattle.panner.specs.declared.VbapPanner.{VbapPanner}
-use Rattle.panner.proofs.Flat.{flatMap-map, threes}
+use Rattle.lists.proofs.Parts.{threes}
+use Rattle.lists.proofs.Collect.{flatMap-map}
 
 module _ (v : VbapPanner) where
   -- the test, at a shape

@@ -9,11 +9,10 @@ use borrow.Author.Tests.{leb-true, eq-eqb, eqb-true}
 use lib.Dec.{eqb, leb}
 use lib.Ieee.{Float, nan}
 use lib.ListN.{length, getD, take, replicate, length-map}
-use lib.Seq.{take-all}
 use Rattle.lists.specs.Lists.{range, filled, part, every}
 use Rattle.lists.proofs.Collect.{flatMap-append}
 use Rattle.lists.proofs.Filled.{take-filled, getD-filled, length-filled}
-use Rattle.lists.proofs.Ranges.{length-range, getD-range, take-places}
+use Rattle.lists.proofs.Ranges.{length-range, getD-range, by-places, getD-map}
 use Rattle.ieee.specs.Values.{+0}
 use Rattle.planar.specs.Planar.{noPair}
 use Rattle.hull.specs.Triplets.{Triplet}
@@ -21,8 +20,8 @@ use Rattle.vector.specs.Vector.{Points}
 use Rattle.panner.specs.Shape.{HullShape, numbers, Shape, silent, mono, planar, hull, Layout}
 use Rattle.panner.specs.Panner.{laid, layoutIn, shapeIn, tripletAt, neighboursAt, kindIn, monoIn, pairsIn, slotsIn, hullIn}
 use Rattle.panner.specs.Meaning.{HullFits, ShapeFits, ReadBack}
-use Rattle.panner.proofs.Bounds.{every-more, every-getD, every-always}
-use Rattle.panner.proofs.Flat.{part-row, getD-row, by-places, same-places, getD-map}
+use Rattle.lists.proofs.Parts.{part-row, getD-row}
+use Rattle.lists.proofs.Tests.{every-more, every-getD, every-always}
 
 -- ---- directions
 
@@ -63,9 +62,8 @@ module _ (ts : List Triplet) (t : ℕ) (h : t < length ts) where
 
     inverse-back : length (getD ts t none .inv) ≡ 9 → map (λ e. getD (flatMap (entries ts) (range 9)) (e * 80 + t) nan) (range 9) ≡ getD ts t none .inv
     inverse-back nine =
-        same-places 9 nan (λ e. getD (flatMap (entries ts) (range 9)) (e * 80 + t) nan) (λ e. getD (getD ts t none .inv) e nan) entry-back
-        ∙ take-places (getD ts t none .inv) nan 9 (omega arith)
-        ∙ take-all 9 (getD ts t none .inv) (omega arith)
+        let f : ℕ → Float = λ e. getD (flatMap (entries ts) (range 9)) (e * 80 + t) nan in
+        ap (λ (k : ℕ). map f (range k)) (sym nine) ∙ by-places (getD ts t none .inv) nan f (λ e h. entry-back e (omega arith))
 
 -- ---- neighbours
 

@@ -8,12 +8,11 @@ use borrow.Author.Tests.{ltb-true, leb-true, le-ltb, lt-leb}
 use lib.Dec.{ltb, leb}
 use lib.ListN.{length, replicate}
 use Rattle.lists.specs.Lists.{filled, every, any}
-use Rattle.lists.proofs.Tests.{any-append}
+use Rattle.lists.proofs.Tests.{any-append, both, every-none}
 use Rattle.panner.specs.Shape.{Shape, silent, mono, planar, hull, Layout}
 use Rattle.panner.specs.Panner.{laid, pairsIn, slotsIn, hullIn}
 use Rattle.panner.specs.Malformed.{countsOver, usedSlots, usedPoints, numbersOut, malformedOf}
 use Rattle.panner.specs.Meaning.{ShapeFits, LayoutFits, pointCount, WellFormed}
-use Rattle.panner.proofs.Bounds.{both, every-none}
 use Rattle.panner.proofs.Reading.{read-back}
 
 -- ---- counts

@@ -1,9 +1,9 @@
 -- Document 01, "Layout" ("Places and counts of a layout that its kind doesn't reach hold 0, +0 or, for a law, the crossfade") and "What to write where": the flat record.
 -- `laid` writes a layout into it, `layoutIn` reads what its kind and counts reach. Assumes nothing.
 use Prim.Native.Nat.{ℕ, _+_, _*_}
-use mathlib.Core.List.{List, [], _∷_, map, flatMap}
+use mathlib.Core.List.{List, [], map, flatMap}
 use lib.ListN.{length, getD, take}
-use lib.Ieee.{Float, nan}
+use lib.Ieee.{nan}
 use Rattle.lists.specs.Lists.{range, filled, part}
 use Rattle.ieee.specs.Values.{+0}
 use Rattle.planar.specs.declared.PlanarPair.{PlanarPair}

@@ -1,12 +1,12 @@
 // A layout by value: the record of a panner, and the test of a record made by hand.
 ghost use mathlib.Core.Path.{_≡_};
-ghost use mathlib.Core.Bool.{true, false, _||_};
+ghost use mathlib.Core.Bool.{true, _||_};
 ghost use mathlib.Core.List.{[], _∷_, flatMap};
 ghost use Prim.Native.Nat.{_*_, _≤_};
 ghost use lib.Dec.{ltb, leb};
 ghost use lib.ListN.{length, getD, take};
 ghost use Rattle.lists.specs.Lists.{range, every, any, part};
-ghost use Rattle.panner.specs.Malformed.{countsOver, numbersOut, malformedOf, numOutputsOf};
+ghost use Rattle.panner.specs.Malformed.{malformedOf, numOutputsOf};
 use planar::PlanarPair;
 
 // Which of the four layouts stands; the fields beside it hold the rest.
@@ -238,11 +238,23 @@ pub fn counts_over(
         | nbrs_over(nbrs)
 }
 
-// Whether a used slot number is not below the outputs, or a used point number not below real plus imaginary.
-fn numbers_out(p: VbapPanner) -> bool
-    requires { ⌜ countsOver p ≡ false ⌝ }
-    ensures { λ r. ⌜ r ≡ numbersOut p ⌝ }
+// Whether a count is over its array, a used slot number is not below the outputs, or a used point number not below real plus imaginary.
+// Each field that is an array is copied where its kind is known: the record itself is never copied.
+pub fn malformed(p: VbapPanner) -> bool
+    ensures { λ r. ⌜ r ≡ malformedOf p ⌝ }
 {
+    let counts = p.num_nbrs;
+    if counts_over(
+        p.num_outputs,
+        p.num_real,
+        p.num_pairs,
+        p.num_slots,
+        p.num_tris,
+        p.num_imag,
+        counts,
+    ) {
+        return true;
+    }
     let kind = p.kind;
     match kind {
         Kind::Silent => false,
@@ -260,7 +272,6 @@ fn numbers_out(p: VbapPanner) -> bool
         }
         Kind::Hull => {
             let out = p.pt_out;
-            let counts = p.num_nbrs;
             let nbrs = p.imag_nbrs;
             let idx = p.idx;
             hull_over(
@@ -276,24 +287,6 @@ fn numbers_out(p: VbapPanner) -> bool
             )
         }
     }
-}
-
-pub fn malformed(p: VbapPanner) -> bool
-    ensures { λ r. ⌜ r ≡ malformedOf p ⌝ }
-{
-    let nbrs = p.num_nbrs;
-    if counts_over(
-        p.num_outputs,
-        p.num_real,
-        p.num_pairs,
-        p.num_slots,
-        p.num_tris,
-        p.num_imag,
-        nbrs,
-    ) {
-        return true;
-    }
-    numbers_out(p)
 }
 
 // `VbapPanner::num_outputs`.

@@ -1,10 +1,11 @@
--- A choice by a test, from what the test says; and the branches of the planar definitions. Assumes nothing.
+-- The branches of the planar definitions. Assumes nothing.
 use Prim.Native.Nat.{ℕ, _<_}
-use mathlib.Core.Path.{_≡_}
+use mathlib.Core.Path.{_≡_, sym}
 use mathlib.Core.Bool.{Bool, true, false, _&&_, cond}
 use lib.Dec.{eqb}
 use lib.Ieee.{Float, binary64, sub, neg, div, lt}
 use borrow.Author.Tests.{ltb-true}
+use Rattle.lists.proofs.Tests.{cond-yes, cond-no}
 use Rattle.ieee.specs.Values.{abs}
 use Rattle.ieee.specs.Narrow.{narrowOf}
 use Rattle.ieee.specs.Remainder.{remEuclidOf}
@@ -18,23 +19,17 @@ use Rattle.planar.specs.declared.Joined.the-variants.{Coincident, Pair}
 use Rattle.planar.specs.Planar.{tiny, coincident, maxVbapGap, gapAt, inverseLaw, lawOf, pairOf}
 use Rattle.planar.specs.Arrays.{slotFits, joinedOf}
 
-cond-yes : {A : Type 0} {b : Bool} (x y : A) → b ≡ true → x ≡ cond b x y
-cond-yes x y h = rw h
-
-cond-no : {A : Type 0} {b : Bool} (x y : A) → b ≡ false → y ≡ cond b x y
-cond-no x y h = rw h
-
 module _ (m i : ℕ) (azA azB : Float) where
   abbrev plainGap : Float
   plainGap = remEuclidOf binary64 (sub binary64 azB azA) twoPi
 
   pub gap-round : eqb m 2 && eqb i 1 && lt plainGap tiny ≡ true → twoPi ≡ gapAt m i azA azB
   unfolding gapAt
-  gap-round h = cond-yes twoPi plainGap h
+  gap-round h = sym (cond-yes twoPi plainGap h)
 
   pub gap-plain : eqb m 2 && eqb i 1 && lt plainGap tiny ≡ false → plainGap ≡ gapAt m i azA azB
   unfolding gapAt
-  gap-plain h = cond-no twoPi plainGap h
+  gap-plain h = sym (cond-no twoPi plainGap h)
 
 module _ (ax az bx bz : Float) where
   -- an entry of the inverse
@@ -46,11 +41,11 @@ module _ (ax az bx bz : Float) where
 
   pub law-flat : lt (abs (minor ax bz bx az)) tiny ≡ true → Crossfade ≡ inverseLaw ax az bx bz
   unfolding inverseLaw
-  law-flat h = cond-yes Crossfade inverse h
+  law-flat h = sym (cond-yes Crossfade inverse h)
 
   pub law-inverse : lt (abs (minor ax bz bx az)) tiny ≡ false → inverse ≡ inverseLaw ax az bx bz
   unfolding inverseLaw
-  law-inverse h = cond-no Crossfade inverse h
+  law-inverse h = sym (cond-no Crossfade inverse h)
 
 module _ (azA azB gap : Float) where
   abbrev byInverse : Law
@@ -58,11 +53,11 @@ module _ (azA azB gap : Float) where
 
   pub law-near : lt (narrowOf gap) maxVbapGap ≡ true → byInverse ≡ lawOf azA azB gap
   unfolding lawOf
-  law-near h = cond-yes byInverse Crossfade h
+  law-near h = sym (cond-yes byInverse Crossfade h)
 
   pub law-far : lt (narrowOf gap) maxVbapGap ≡ false → Crossfade ≡ lawOf azA azB gap
   unfolding lawOf
-  law-far h = cond-no byInverse Crossfade h
+  law-far h = sym (cond-no byInverse Crossfade h)
 
 module _ (g : Float) (s t : Spot) where
   pub pair-none : lt g coincident ≡ true → Coincident ≡ joinedOf (pairOf g s t)

@@ -1,52 +1,60 @@
 -- The branches of the row's definitions, from what each test says. Assumes nothing.
-use Prim.Native.Nat.{ℕ, suc, _-_, _≤_, _<_}
-use mathlib.Core.Path.{_≡_, refl, ap, _∙_}
+use Prim.Native.Nat.{ℕ, _+_, _-_, _≤_, _<_}
+use mathlib.Core.Path.{_≡_, refl, sym, ap, _∙_}
 use mathlib.Core.Bool.{Bool, true, false, cond}
-use mathlib.Core.List.{List, [], _∷_}
-use native.Mathlib.Nat.{not-suc-le-zero}
+use mathlib.Core.List.{List}
 use native.Mathlib.Omega.{arith}
 use lib.ListN.{length, getD, set, take, drop, replicate}
 use lib.Seq.{getD-take, length-take-le}
-use lib.Ieee.{Float, binary32, add, mul, div, lt}
+use lib.Ieee.{Float, nan, binary32, add, mul, div, lt}
 use Rattle.lists.specs.Lists.{isEmpty, firstThat, last}
 use Rattle.ieee.specs.Values.{+0}
 use Rattle.ieee.specs.Order.{squareOf}
-use Rattle.ieee.specs.Root.{sqrtOf}
+use Rattle.root.specs.Root.{sqrtOf}
 use Rattle.planar.specs.declared.Law.{Law}
 use Rattle.planar.specs.declared.Law.the-variants.{Inverse, Crossfade}
 use Rattle.planar.specs.declared.PlanarPair.{PlanarPair}
 use Rattle.planar.specs.Planar.{noPair}
 use Rattle.planar_row.specs.PlanarRow.{leastPower, Two, addAt, rel, contains, chosen, byInverse, byCrossfade, byLaw, planarSpread, spread, pairRow, planarRow}
-use Rattle.lists.proofs.Search.{first-end}
-
-cond-yes : {A : Type 0} {b : Bool} (x y : A) → b ≡ true → x ≡ cond b x y
-cond-yes x y h = rw h
-
-cond-no : {A : Type 0} {b : Bool} (x y : A) → b ≡ false → y ≡ cond b x y
-cond-no x y h = rw h
+use Rattle.lists.proofs.Search.{first-here, first-on, first-end}
+use Rattle.lists.proofs.Ends.{last-at}
+use Rattle.lists.proofs.Tests.{cond-yes, cond-no}
 
 -- ---- the chosen pair
 
--- the last of a list stands at its last place
-pub last-at : {A : Type 0} (l : List A) (d e : A) → 0 < length l → last l d ≡ getD l (length l - 1) e
-unfolding last
-last-at [] d e h = absurd (not-suc-le-zero h)
-last-at (a ∷ []) d e h = refl
-last-at (a ∷ (b ∷ l)) d e h =
-    let g : length (a ∷ b ∷ l) - 1 ≡ suc (length (b ∷ l) - 1) = omega arith in
-    rw g (last-at (b ∷ l) a e (omega arith))
+-- what the machine reads past the end of an array of pairs
+abbrev past : PlanarPair
+past = record { start = nan; gap = nan; a = 0; b = 0; law = Inverse nan nan nan nan }
 
--- what is found of n pairs from place i on
-abbrev pub foundFrom : Float → List PlanarPair → ℕ → ℕ → PlanarPair
-foundFrom az pairs n i = firstThat (contains az) (drop i (take n pairs)) (last (take n pairs) noPair)
+-- the first n pairs of an array of any length
+module _ (az : Float) (pairs : List PlanarPair) (n : ℕ) where
+  abbrev test : PlanarPair → Bool
+  test = contains az
 
--- at the end it is the last of them
-pub found-none : (az : Float) (pairs : List PlanarPair) (n i : ℕ) (e : PlanarPair) → 0 < n → n ≤ length pairs → n ≤ i → foundFrom az pairs n i ≡ getD pairs (n - 1) e
-found-none az pairs n i e some fits h =
-    let long : length (take n pairs) ≡ n = length-take-le n pairs fits in
-    first-end (contains az) pairs n i (last (take n pairs) noPair) h fits
-    ∙ last-at (take n pairs) noPair e (omega arith)
-    ∙ rw (long, getD-take n pairs (n - 1) e (omega arith)) refl
+  -- before turn i: what is found from there on is what is found of all
+  abbrev pub Found : ℕ → Type 0
+  Found i = firstThat test (drop i (take n pairs)) (last (take n pairs) noPair) ≡ chosen az (take n pairs)
+
+  pub found-start : Found 0
+  unfolding chosen
+  found-start = refl
+
+  module _ (i : ℕ) (fits : n ≤ length pairs) (f : Found i) where
+    pub found-here : i < n → test (getD pairs i past) ≡ true → getD pairs i past ≡ chosen az (take n pairs)
+    found-here h e = sym (first-here test pairs n i past h fits (last (take n pairs) noPair) e) ∙ f
+
+    pub found-on : i < n → test (getD pairs i past) ≡ false → Found (i + 1)
+    found-on h e = sym (first-on test pairs n i past h fits (last (take n pairs) noPair) e) ∙ f
+
+    -- at the end it is the last of them
+    pub found-last : 0 < n → n ≤ i → getD pairs (n - 1) past ≡ chosen az (take n pairs)
+    found-last some h =
+        let long : length (take n pairs) ≡ n = length-take-le n pairs fits in
+        sym
+        (first-end test pairs n i (last (take n pairs) noPair) h fits
+        ∙ last-at (take n pairs) noPair past (omega arith)
+        ∙ rw (long, getD-take n pairs (n - 1) past (omega arith)) refl)
+        ∙ f
 
 -- ---- the law of a pair
 
@@ -75,10 +83,10 @@ module _ (n : ℕ) (el : Float) (p : PlanarPair) (g : Two) (slots : List ℕ) wh
     row-is = ap (λ (x : Float). cond (lt leastPower x) (sounding x) silent) is
 
     pub row-silent : lt leastPower norm ≡ false → silent ≡ pairRow n el p g slots
-    row-silent h = cond-no (sounding norm) silent h ∙ row-is
+    row-silent h = sym (cond-no (sounding norm) silent h) ∙ row-is
 
     pub row-sounds : lt leastPower norm ≡ true → sounding norm ≡ pairRow n el p g slots
-    row-sounds h = cond-yes (sounding norm) silent h ∙ row-is
+    row-sounds h = sym (cond-yes (sounding norm) silent h) ∙ row-is
 
   -- what the code makes, store after store
   pub row-made : (norm : Float) {w : Float} {zeros one two all : List Float}
@@ -94,7 +102,7 @@ two-same g e f = rw (e, f)
 module _ (n : ℕ) (az el : Float) (pairs : List PlanarPair) (slots : List ℕ) where
   pub planar-silent : isEmpty pairs ≡ true → replicate n +0 ≡ planarRow n az el pairs slots
   unfolding planarRow
-  planar-silent h = cond-yes (replicate n +0) (pairRow n el (chosen az pairs) (byLaw az (chosen az pairs) (chosen az pairs .law)) slots) h
+  planar-silent h = rw h
 
   pub planar-sounds : {p : PlanarPair} {g : Two} → p ≡ chosen az pairs → g ≡ byLaw az p (p .law) → isEmpty pairs ≡ false
       → pairRow n el p g slots ≡ planarRow n az el pairs slots
@@ -102,4 +110,4 @@ module _ (n : ℕ) (az el : Float) (pairs : List PlanarPair) (slots : List ℕ) 
   planar-sounds {p} {g} ep eg h =
       ap (λ (q : Two). pairRow n el p q slots) eg
       ∙ ap (λ (q : PlanarPair). pairRow n el q (byLaw az q (q .law)) slots) ep
-      ∙ cond-no (replicate n +0) (pairRow n el (chosen az pairs) (byLaw az (chosen az pairs) (chosen az pairs .law)) slots) h
+      ∙ rw h

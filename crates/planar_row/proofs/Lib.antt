@@ -1,4 +1,3 @@
-pub mod Front
 pub mod Rows
 pub mod Zeros
 pub mod Branches

@@ -10,7 +10,7 @@ use Rattle.lists.specs.Lists.{firstThat, last}
 use Rattle.planar.specs.Planar.{noPair}
 use Rattle.planar_row.specs.PlanarRow.{contains, chosen, byInverse}
 use Rattle.planar_row.specs.Meaning.{ChosenFirst, ChosenLast, InverseGains}
-use Rattle.planar_row.proofs.Branches.{last-at}
+use Rattle.lists.proofs.Ends.{last-at}
 
 module _ {A : Type 0} (f : A → Bool) (d : A) where
   first-is : (l : List A) (r : A) (i : ℕ) → i < length l → f (getD l i d) ≡ true → ((j : ℕ) → j < i → f (getD l j d) ≡ false) → firstThat f l r ≡ getD l i d

@@ -5,16 +5,14 @@ use mathlib.Core.Bool.{true, false}
 use mathlib.Core.List.{List, [], _++_, append-nil, foldl}
 use native.Mathlib.Numerals.{add-one}
 use native.Mathlib.Omega.{arith}
-use borrow.Author.Tests.{ne-eqb}
 use lib.ListN.{length, getD, set, take, drop, replicate, length-replicate, replicate-append-replicate, drop-of-length-le}
 use lib.Seq.{drop-cons, set-at, set-out, append-snoc, take-suc, length-take-le}
 use lib.Ieee.{Float, nan, binary32, add, div, lt}
 use Rattle.lists.specs.Lists.{isEmpty}
 use Rattle.ieee.specs.Values.{+0}
-use Rattle.planar_row.specs.Spread.{spreadGain}
-use Rattle.planar_row.specs.PlanarRow.{count32, addAt, spreadAt, spread}
+use Rattle.planar_row.specs.PlanarRow.{count32, addAt, spreadGain, spreadAt, spread}
 use Rattle.lists.proofs.Collect.{foldl-snoc}
-use Rattle.lists.proofs.Tests.{empty-length}
+use Rattle.lists.proofs.Tests.{some-taken}
 
 -- ---- zeros
 
@@ -46,7 +44,7 @@ module _ (row : List Float) (i : ℕ) (beyond : length row ≤ i) where
 -- ---- a place within
 
 pub spread-by : (row : List Float) (i : ℕ) (w d2 : Float) {v : Float} → v ≡ spreadGain w d2 (getD row i nan) → set row i v ≡ spreadAt w d2 row i
-unfolding spreadAt spreadGain
+unfolding spreadAt
 spread-by row i w d2 e = ap (set row i) e
 
 -- ---- the spread over the first n slots
@@ -65,22 +63,8 @@ module _ (w : Float) (slots : List ℕ) (row : List Float) where
   unfolding spread isEmpty
   spread-nowhere e h = rw (e, h)
 
-  pub spread-all : {count : Float} → count ≡ count32 (length slots) → lt +0 w ≡ true → isEmpty slots ≡ false
-      → foldl (spreadAt w (div binary32 w count)) row slots ≡ spread w slots row
-  unfolding spread
-  spread-all e h some = rw (e, h, some)
-
--- the first n of an array's elements
-pub some-taken : {A : Type 0} (l : List A) (n : ℕ) → n ≤ length l → (n ≡ 0 → ⊥) → isEmpty (take n l) ≡ false
-some-taken l n fits some =
-    let long : length (take n l) ≡ n = length-take-le n l fits in
-    empty-length (take n l) ∙ ne-eqb (length (take n l)) 0 (λ z. some (omega arith))
-
-pub none-taken : {A : Type 0} (l : List A) (n : ℕ) → n ≡ 0 → isEmpty (take n l) ≡ true
-unfolding isEmpty
-none-taken l n e = rw e
-
+-- over the first n of an array's slots
 pub spread-first : (w : Float) (slots : List ℕ) (row : List Float) (n : ℕ) {count : Float} → n ≤ length slots → (n ≡ 0 → ⊥) → count ≡ count32 n → lt +0 w ≡ true
     → foldl (spreadAt w (div binary32 w count)) row (take n slots) ≡ spread w (take n slots) row
-spread-first w slots row n fits some e h =
-    spread-all w (take n slots) row (e ∙ ap count32 (sym (length-take-le n slots fits))) h (some-taken slots n fits some)
+unfolding spread
+spread-first w slots row n fits some e h = rw (e, length-take-le n slots fits, h, some-taken slots n fits some)

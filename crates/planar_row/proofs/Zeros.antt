@@ -11,12 +11,11 @@ use lib.Ieee.Fits.{up-pos, down-pos}
 use lib.Ieee.Scale.{round-same}
 use Rattle.ieee.specs.Values.{+0, 1·0}
 use Rattle.ieee.specs.Order.{squareOf}
-use Rattle.ieee.specs.Root.{sqrtOf}
+use Rattle.root.specs.Root.{sqrtOf}
 use Rattle.ieee.specs.Narrow.{narrowOf}
 use Rattle.trig.specs.Sine.{sin32Of, sinOf, sineBy, mod4, reduced, quarter, nearestWhole, quotient, remainder, S, sineCoefficients}
 use Rattle.trig.specs.Series.{coefficients, factorial, sumOf}
-use Rattle.planar_row.specs.PlanarRow.{halfPi32}
-use Rattle.planar_row.specs.Spread.{spreadGain}
+use Rattle.planar_row.specs.PlanarRow.{halfPi32, spreadGain}
 use Rattle.lists.proofs.Tests.{and-left}
 
 -- a zero, rounded

@@ -1,3 +1,2 @@
 pub mod PlanarRow
-pub mod Spread
 pub mod Meaning

@@ -10,22 +10,22 @@ use Rattle.lists.specs.Lists.{isEmpty, firstThat, last}
 use Rattle.ieee.specs.Values.{+0, 1·0, abs}
 use Rattle.ieee.specs.Order.{maxOf, clampOf, squareOf, powi4Of}
 use Rattle.ieee.specs.Remainder.{remEuclidOf}
-use Rattle.ieee.specs.Root.{sqrtOf}
+use Rattle.root.specs.Root.{sqrtOf}
 use Rattle.trig.specs.Sine.{sin32Of, cos32Of}
 use Rattle.planar.specs.declared.Law.{Law}
 use Rattle.planar.specs.declared.Law.the-variants.{Inverse, Crossfade}
 use Rattle.planar.specs.declared.PlanarPair.{PlanarPair}
 use Rattle.planar.specs.Planar.{noPair}
 
--- PLANAR_MAX_ELEVATION, 0.0873 in 32 bits. Origin: vbap.rs line 52.
-abbrev pub planarMaxElevation : Float
-planarMaxElevation = ofBits binary32 0x3db2_ca58
-
 -- a whole number as a 32-bit float, rounded once
 abbrev pub count32 : ℕ → Float
 count32 n = ofInt binary32 (pos n)
 
 -- ---- constants in 32 bits
+
+-- PLANAR_MAX_ELEVATION, 0.0873. Origin: vbap.rs line 52.
+abbrev pub planarMaxElevation : Float
+planarMaxElevation = ofBits binary32 0x3db2_ca58
 
 -- TAU and FRAC_PI_2. Origin: std::f32::consts.
 abbrev pub tau32 : Float
@@ -38,7 +38,7 @@ halfPi32 = ofBits binary32 0x3fc9_0fdb
 abbrev pub insideEps : Float
 insideEps = ofBits binary32 0x3586_37bd
 
--- 1e-12. Origin: vbap.rs lines 152, 493 and 574; a norm or a power that is not above it scales nothing, and a mixed gain's squared norm is raised to it.
+-- 1e-12. Origin: vbap.rs lines 493 and 574; a norm or a power that is not above it scales nothing.
 abbrev pub leastPower : Float
 leastPower = ofBits binary32 0x2b8c_bccc
 
@@ -94,11 +94,12 @@ planarSpread el =
     let t = clampOf (div binary32 (sub binary32 (abs el) lo) (sub binary32 halfPi32 lo)) in
     squareOf (sin32Of (mul binary32 t halfPi32))
 
--- √((1 − w)·g·g + d2) in one slot; with d2 = w ÷ slots in each of the slots
+-- √((1 − w)·g·g + d2), in one slot; with d2 = w ÷ slots in each of the slots
+unfoldable pub spreadGain : Float → Float → Float → Float
+spreadGain w d2 g = sqrtOf binary32 (add binary32 (mul binary32 (mul binary32 (sub binary32 1·0 w) g) g) d2)
+
 unfoldable pub spreadAt : Float → Float → List Float → ℕ → List Float
-spreadAt w d2 row s =
-    let g = getD row s nan in
-    set row s (sqrtOf binary32 (add binary32 (mul binary32 (mul binary32 (sub binary32 1·0 w) g) g) d2))
+spreadAt w d2 row s = set row s (spreadGain w d2 (getD row s nan))
 
 unfoldable pub spread : Float → List ℕ → List Float → List Float
 spread w slots row =

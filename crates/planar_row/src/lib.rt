@@ -3,8 +3,7 @@ ghost use mathlib.Core.Path.{_≡_};
 ghost use Prim.Native.Nat.{_≤_, _<_};
 ghost use lib.ListN.{length, set, replicate, take};
 ghost use Rattle.ieee.specs.Values.{+0};
-ghost use Rattle.planar_row.specs.Spread.{spreadGain};
-ghost use Rattle.planar_row.specs.PlanarRow.{addAt, rel, contains, chosen, byInverse, shaped, byCrossfade, byLaw, planarSpread, spreadAt, spread, pairRow, planarRow};
+ghost use Rattle.planar_row.specs.PlanarRow.{addAt, rel, contains, chosen, byInverse, shaped, byCrossfade, byLaw, planarSpread, spreadGain, spreadAt, spread, pairRow, planarRow};
 use planar::Law;
 use planar::PlanarPair;
 
@@ -195,7 +194,7 @@ fn planar_spread(el: f32) -> f32
 fn spread_gain(w: f32, d2: f32, g: f32) -> f32
     ensures { λ r. ⌜ r ≡ spreadGain w d2 g ⌝ }
 {
-    ieee::sqrt32((1.0 - w) * g * g + d2)
+    root::sqrt32((1.0 - w) * g * g + d2)
 }
 
 // One slot's gain, spread; `silent` is what a gain of zero becomes.
@@ -249,7 +248,7 @@ fn pair_row(
     requires { ⌜ («num_slots» ≤ 40) × (now row ≡ replicate (length (now row)) +0) ⌝ }
     ensures { λ r. ⌜ now (row .exit) ≡ pairRow (length (now (row .entry))) el p (record { ga = g .ga; gb = g .gb }) (take «num_slots» slots) ⌝ }
 {
-    let norm = ieee::sqrt32(g.ga * g.ga + g.gb * g.gb);
+    let norm = root::sqrt32(g.ga * g.ga + g.gb * g.gb);
     if !(LEAST_POWER < norm) {
         return;
     }

@@ -8,7 +8,7 @@ use lib.Ieee.{Float, size, round, neg, add, sub, mul, div, rem, lt, eq, le, ofIn
 use Rattle.lists.specs.Lists.{from, range, collect, every, any, isEmpty, firstThat, last, filled, part}
 use Rattle.ieee.specs.Values.{+0, 1·0, abs, signBit, isFinite}
 use Rattle.ieee.specs.Narrow.{narrowOf}
-use Rattle.ieee.specs.Root.{sqrtOf}
+use Rattle.root.specs.Root.{sqrtOf}
 use Rattle.ieee.specs.Order.{maxOf, clampOf, squareOf, powi4Of}
 use Rattle.ieee.specs.Remainder.{remEuclidOf}
 use Rattle.trig.specs.Series.{coefficients, sumOf, factorial}
@@ -31,7 +31,7 @@ use Rattle.gains.specs.Gains.{finiteOr0, rowIn, rowOf, gainsOf}
 use Rattle.ramp.specs.Ramp.{rampGain, rampAddOf}
 use Rattle.ramp.specs.Mixed.{normSqOf, normalizedLerpGainOf}
 use Rattle.history.specs.Calls.{place, takeBack}
-use Rattle.session.specs.Open.{fresh}
+use Rattle.session_open.specs.Open.{fresh}
 use Rattle.session.specs.Session.{malformedSession, numberOf, restood, placed, takenBack, accepted, after, afterAll}
 use Rattle.proving_ground.specs.Table.{F, Table}
 
@@ -104,17 +104,16 @@ into-one : pairRow 1 +0 pair ahead (0 ∷ 1 ∷ []) ≡ +0 ∷ []
 unfolding pairRow addAt spread squareOf sqrtOf isEmpty round add mul div lt ofBits
 into-one = rw no-spread refl
 
-F-F-row : rowOf (layoutOf (F ++ F) []) 2 +0 +0 ≡ +0 ∷ 1·0 ∷ []
+two-row : (n : ℕ) → rowOf (layoutOf (F ++ F) []) n +0 +0 ≡ pairRow n +0 pair ahead (0 ∷ 1 ∷ [])
 unfolding rowOf finiteOr0 isFinite
-F-F-row = ap (rowIn 2 +0 +0) F-F ∙ two-chosen 2 ∙ into-two
+two-row n = ap (rowIn n +0 +0) F-F ∙ two-chosen n
 
-F-F-row-of-one : rowOf (layoutOf (F ++ F) []) 1 +0 +0 ≡ +0 ∷ []
-unfolding rowOf finiteOr0 isFinite
-F-F-row-of-one = ap (rowIn 1 +0 +0) F-F ∙ two-chosen 1 ∙ into-one
+F-F-row : rowOf (layoutOf (F ++ F) []) 2 +0 +0 ≡ +0 ∷ 1·0 ∷ []
+F-F-row = two-row 2 ∙ into-two
 
 F-F-one : (held : Float) → gainsOf (layoutOf (F ++ F) []) +0 +0 (held ∷ []) ≡ +0 ∷ []
 unfolding gainsOf layoutOf outputsOf
-F-F-one held = ap (λ row. row ++ []) F-F-row-of-one
+F-F-one held = ap (λ row. row ++ []) (two-row 1 ∙ into-one)
 
 -- ---- F, F, F
 

@@ -8,7 +8,7 @@ use lib.ListN.{length}
 use lib.Ieee.{Float, fin, binary32, binary64, neg, ofInt, ofBits, toBits, toUnsigned}
 use Rattle.ieee.specs.Values.{+0, 1·0, 2·0}
 use Rattle.ieee.specs.Narrow.{narrowOf}
-use Rattle.ieee.specs.Root.{sqrtOf}
+use Rattle.root.specs.Root.{sqrtOf}
 use Rattle.planar.specs.declared.Law.the-variants.{Crossfade}
 use Rattle.panner.specs.Shape.{silent, mono, planar}
 use Rattle.panner.specs.Malformed.{malformedOf}
@@ -19,7 +19,7 @@ use Rattle.gains.specs.Gains.{rowOf, gainsOf}
 use Rattle.ramp.specs.Ramp.{rampAddOf}
 use Rattle.ramp.specs.Mixed.{normalizedLerpGainOf}
 use Rattle.history.specs.Calls.{place, takeBack}
-use Rattle.session.specs.Open.{fresh}
+use Rattle.session_open.specs.Open.{fresh}
 use Rattle.session.specs.Session.{numberOf, afterAll}
 
 -- position F is (0, 0, −1)

@@ -1,5 +1,5 @@
 -- Whole numbers up to 2 ^ prec are values of the format, so the sum of two of them is the exact sum, rounded once. Assumes nothing.
-use Prim.Native.Nat.{ℕ, _+_, _*_, _^_, _≤_, _<_}
+use Prim.Native.Nat.{ℕ, _+_, _*_, _^_, _≤_}
 use mathlib.Core.Path.{_≡_, refl, sym, ap, _∙_}
 use mathlib.Core.Bool.{Bool, false}
 use mathlib.Core.List.{List, [], _∷_, map}
@@ -7,8 +7,7 @@ use native.Mathlib.Nat.{mul-one, mul-assoc, mul-comm, mul-pos, add-mul}
 use native.Mathlib.Omega.{arith}
 use lib.IntN.{ℤ, pos}
 use lib.Dec.{lit≤, lit<}
-use lib.ListN.{length, getD}
-use lib.Seq.{ext-getD}
+use lib.ListN.{getD}
 use lib.Ieee.{Float, nan, inf, fin, Format, binary32, prec, up, down, round, sum, add, ofInt, ofBits}
 use lib.Ieee.Fits.{down-pos}
 use lib.Ieee.Exact.{HasValue}
@@ -17,7 +16,7 @@ use lib.Ieee.Scale.{round-same}
 use Rattle.lists.specs.Lists.{range, from}
 use Rattle.ramp.specs.Ramp.{count32}
 use Rattle.ramp.specs.Turns.{8·0}
-use Rattle.lists.proofs.Ranges.{length-map-range, getD-map-range}
+use Rattle.lists.proofs.Ranges.{getD-map-range, same-places}
 
 cross : (X Y E D a b : ℕ) → X * 1 ≡ a * E → Y * 1 ≡ b * D → (X * D + Y * E) * 1 ≡ (a + b) * (E * D)
 cross X Y E D a b p q =
@@ -59,17 +58,10 @@ pub first-counts : map (ofBits binary32) (0x3f80_0000 ∷ 0x4000_0000 ∷ 0x4040
 unfolding ofInt ofBits range from
 first-counts = refl
 
-pub map-range-same : {A : Type 0} (d : A) (f g : ℕ → A) (n : ℕ) → ((k : ℕ) → k < n → f k ≡ g k) → map f (range n) ≡ map g (range n)
-map-range-same d f g n same =
-    let p : length (map f (range n)) ≡ n = length-map-range f n in
-    let q : length (map g (range n)) ≡ n = length-map-range g n in
-    ext-getD d (map f (range n)) (map g (range n)) (p ∙ sym q)
-    (λ k h. let b : k < n = omega arith in getD-map-range f n k d b ∙ same k b ∙ sym (getD-map-range g n k d b))
-
 -- the next eight counts are those plus 8
 pub counts-onward : (i : ℕ) {c : List Float} → i + 8 ≤ 2 ^ 24 → c ≡ countsFrom i → map (λ k. add binary32 (getD c k nan) 8·0) (range 8) ≡ countsFrom (i + 8)
 counts-onward i {c} h ec =
-    map-range-same nan (λ k. add binary32 (getD c k nan) 8·0) (λ k. count32 (i + 8 + k + 1)) 8
+    same-places (λ k. add binary32 (getD c k nan) 8·0) (λ k. count32 (i + 8 + k + 1)) 8
     (λ k b.
     let e : i + k + 1 + 8 ≡ i + 8 + k + 1 = omega arith in
     ap (λ (l : List Float). add binary32 (getD l k nan) 8·0) ec

@@ -5,7 +5,7 @@ use lib.Ieee.{nan, binary32, ofBits, add, sub, mul, div, eq, lt, isNan, ofInt}
 use Rattle.lists.specs.Lists.{range, from}
 use Rattle.ieee.specs.Values.{+0, 1·0}
 use Rattle.ieee.specs.Order.{maxOf, clampOf}
-use Rattle.ieee.specs.Root.{sqrtOf}
+use Rattle.root.specs.Root.{sqrtOf}
 use Rattle.ramp.specs.Mixed.{normSqOf, normalizedLerpGainOf}
 use Rattle.ramp.specs.Ramp.{rampGain, rampAddOf}
 

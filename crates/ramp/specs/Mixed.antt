@@ -2,7 +2,7 @@
 use lib.Ieee.{Float, binary32, add, sub, mul, div, ofBits}
 use Rattle.ieee.specs.Values.{1·0, 2·0}
 use Rattle.ieee.specs.Order.{maxOf, clampOf}
-use Rattle.ieee.specs.Root.{sqrtOf}
+use Rattle.root.specs.Root.{sqrtOf}
 
 -- 1e-12 in 32 bits. Origin: vbap.rs line 152; the squared norm is raised to it, so that the division stands.
 abbrev pub leastNorm : Float

@@ -3,7 +3,7 @@ ghost use mathlib.Core.Path.{_≡_};
 ghost use mathlib.Core.List.{map, foldl};
 ghost use Prim.Native.Nat.{_+_, _≤_, min, max};
 ghost use lib.ListN.{length, getD, set};
-ghost use lib.Ieee.{nan, binary32, add, ofInt};
+ghost use lib.Ieee.{nan, binary32, add};
 ghost use Rattle.lists.specs.Lists.{range, between};
 ghost use Rattle.ramp.specs.Mixed.{normSqOf, normalizedLerpGainOf};
 ghost use Rattle.ramp.specs.Ramp.{rampAddOf};
@@ -31,7 +31,7 @@ pub fn normalized_lerp_gain(from: f32, to: f32, dot: f32, t: f32) -> f32
     ensures { λ r. ⌜ r ≡ normalizedLerpGainOf from to dot t ⌝ }
 {
     let at = ieee::clamp(t);
-    (from + (to - from) * at) / ieee::sqrt32(ieee::max32(norm_sq(at, dot), LEAST_NORM))
+    (from + (to - from) * at) / root::sqrt32(ieee::max32(norm_sq(at, dot), LEAST_NORM))
 }
 
 // ---- eight samples at once, and their counts

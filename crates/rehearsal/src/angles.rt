@@ -27,6 +27,6 @@ pub fn azimuth(x: f32, z: f32) -> f32 {
 pub fn elevation(x: f32, y: f32, z: f32) -> f32 {
     let right = ieee::widen(x);
     let back = ieee::widen(z);
-    let level = ieee::sqrt64(right * right + back * back);
+    let level = root::sqrt64(right * right + back * back);
     degrees(trig::atan2(ieee::widen(y), level))
 }

@@ -1,6 +1,6 @@
 // The dome of the rehearsal: rings of 12, 8 and 3 at elevations 0°, 30° and 60°, one speaker at the zenith, and an LFE.
 use layout::NewPanner;
-use session::Opened;
+use session_open::Opened;
 
 // Right, up and back, in units of the dome's radius.
 // Origin: cos(el) * sin(az), sin(el), -cos(el) * cos(az), each rounded once to 32 bits.
@@ -65,19 +65,19 @@ pub fn new() -> NewPanner {
 pub fn open(sources: usize) -> Opened {
     let numbers = positions();
     let lfe = LFE;
-    session::open(&numbers, &lfe, sources)
+    session_open::open(&numbers, &lfe, sources)
 }
 
 // 74 numbers: not a multiple of 3.
 pub fn open_74() -> Opened {
     let numbers = [0.0f32; 74];
     let lfe = LFE;
-    session::open(&numbers, &lfe, 2)
+    session_open::open(&numbers, &lfe, 2)
 }
 
 // 41 positions.
 pub fn open_41() -> Opened {
     let numbers = [0.0f32; 123];
     let lfe = LFE;
-    session::open(&numbers, &lfe, 2)
+    session_open::open(&numbers, &lfe, 2)
 }

@@ -10,8 +10,8 @@ use crate::columns::left;
 use crate::columns::line;
 use crate::columns::right;
 use crate::dome;
-use session::Opened;
 use session::Session;
+use session_open::Opened;
 
 fn heading() {
     left(b"call", 34);

@@ -1,9 +1,9 @@
 -- The number of a render, by its tests; and what a render that is not refused has shown. Assumes nothing.
-use Prim.Native.Nat.{ℕ, _+_, _*_, _≤_, _<_}
+use Prim.Native.Nat.{ℕ, _*_, _≤_}
 use mathlib.Core.Path.{_≡_, refl}
 use mathlib.Core.Bool.{Bool, true, false, not, cond}
 use mathlib.Core.List.{List}
-use native.Mathlib.Nat.{suc-mul, mul-le-mul-right, mul-le-mul-left, le-trans}
+use native.Mathlib.Nat.{mul-le-mul-right, mul-le-mul-left, le-trans}
 use native.Mathlib.Omega.{arith}
 use borrow.Author.Tests.{ltb-false, eqb-true}
 use lib.Dec.{eqb, ltb}
@@ -13,16 +13,12 @@ use Rattle.history.specs.Calls.{render}
 use Rattle.history.specs.History.{longestBlock}
 use Rattle.panner.proofs.Counts.{within}
 use Rattle.panner.specs.Malformed.{countsOver, numbersOut, malformedOf}
-use Rattle.panner.proofs.Bounds.{neither}
+use Rattle.lists.proofs.Tests.{neither}
 use Rattle.session.specs.Session.{malformedSession, numberOf}
 use Rattle.session.specs.declared.Session.{Session}
 use Rattle.session.proofs.Refusals.{formed}
 
 -- ---- numbers that fit
-
--- the part of one of n lies within the whole
-pub part-end : (i n len : ℕ) → i < n → i * len + len ≤ n * len
-part-end i n len h = rw (← suc-mul i len) (mul-le-mul-right len h)
 
 pub small-product : (a b : ℕ) → a ≤ 40 → b ≤ 1024 → a * b ≤ 40960
 small-product a b h k = le-trans (mul-le-mul-right b h) (mul-le-mul-left 40 k)

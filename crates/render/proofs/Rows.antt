@@ -14,17 +14,17 @@ use lib.Seq.{take-at, drop-at, drop-drop, drop-append-le, length-take-le}
 use lib.Ieee.{Float, nan}
 use Rattle.lists.specs.Lists.{range, part, every}
 use Rattle.lists.proofs.Collect.{flatMap-snoc}
-use Rattle.lists.proofs.Parts.{length-part}
+use Rattle.lists.proofs.Parts.{length-part, getD-row}
 use Rattle.lists.proofs.Ranges.{range-none, range-snoc, length-range, getD-range}
 use Rattle.lists.proofs.Tests.{every-snoc}
 use Rattle.ieee.specs.Values.{+0}
 use Rattle.panner.specs.declared.VbapPanner.{VbapPanner}
 use Rattle.panner.specs.Panner.{layoutIn}
 use Rattle.panner.specs.Malformed.{malformedOf}
-use Rattle.panner.proofs.Flat.{getD-row}
 use Rattle.gains.specs.Gains.{rowOf, gainsOf, gainsBuffer}
 use Rattle.session.specs.Session.{standingCount, at, startRow, target, newStart}
 use Rattle.session.specs.declared.Session.{Session}
+use Rattle.render.specs.Target.{targetRow}
 
 -- ---- the target of a source
 
@@ -40,22 +40,26 @@ whole-row v az el buffer m h =
     ∙ ap (λ (r : List Float). rowOf (layoutIn v) (v .«num_outputs») az el ++ r) e
     ∙ append-nil _
 
+-- by whether a direction stands
+pub row-none : (v : VbapPanner) (n : ℕ) (az el : Float) → n ≡ 0 → replicate (v .«num_outputs») +0 ≡ targetRow v n az el
+unfolding targetRow
+row-none v n az el h = rw (eq-eqb n 0 h)
+
+pub row-some : (v : VbapPanner) (n : ℕ) (az el : Float) → (n ≡ 0 → ⊥) → rowOf (layoutIn v) (v .«num_outputs») az el ≡ targetRow v n az el
+unfolding targetRow
+row-some v n az el h = rw (ne-eqb n 0 h)
+
 module _ (s : Session) (i : ℕ) where
-  pub target-none : standingCount s i ≡ 0 → replicate (s .panner .«num_outputs») +0 ≡ target s i
-  unfolding target
-  target-none h = rw (eq-eqb (standingCount s i) 0 h)
+  pub target-at : (k : ℕ) → k ≡ standingCount s i - 1
+      → targetRow (s .panner) (standingCount s i) (getD (s .standing) (at i k) nan) (getD (s .standing) (at i k + 1) nan) ≡ target s i
+  unfolding targetRow target
+  target-at k e = ap (λ (k : ℕ). targetRow (s .panner) (standingCount s i) (getD (s .standing) (at i k) nan) (getD (s .standing) (at i k + 1) nan)) e
 
-  pub target-some : (standingCount s i ≡ 0 → ⊥)
-      → rowOf (layoutIn (s .panner)) (s .panner .«num_outputs») (getD (s .standing) (at i (standingCount s i - 1)) nan) (getD (s .standing) (at i (standingCount s i - 1) + 1) nan)
-      ≡ target s i
-  unfolding target
-  target-some h = rw (ne-eqb (standingCount s i) 0 h)
-
-  pub start-new : i < s .sources → newStart s i ≡ target s i ++ drop (s .panner .«num_outputs») (startRow s i)
+  start-new : i < s .sources → newStart s i ≡ target s i ++ drop (s .panner .«num_outputs») (startRow s i)
   unfolding newStart
   start-new h = rw (lt-ltb i (s .sources) h)
 
-  pub start-old : s .sources ≤ i → newStart s i ≡ startRow s i
+  start-old : s .sources ≤ i → newStart s i ≡ startRow s i
   unfolding newStart
   start-old h = rw (le-ltb i (s .sources) h)
 
@@ -85,7 +89,7 @@ module _ {A : Type 0} (w : ℕ) (l : List A) (f : ℕ → List A) where
       sym (take-append-drop w (drop (i * w) l)) ∙ ap (λ (r : List A). part w l i ++ r) (drop-drop w (i * w) l ∙ ap (λ (k : ℕ). drop k l) (sym e))
 
   -- a part v in front of row i
-  pub renewed-more : (i n : ℕ) (v : List A) {m : List A} → f i ≡ v ++ drop n (part w l i) → length v ≡ n → n ≤ w → i * w + w ≤ length l
+  renewed-more : (i n : ℕ) (v : List A) {m : List A} → f i ≡ v ++ drop n (part w l i) → length v ≡ n → n ≤ w → i * w + w ≤ length l
       → Renewed w l f i m → Renewed w l f (i + 1) (putMid (i * w) n m v)
   renewed-more i n v {m} e g h k r =
       let before : List A = flatMap f (range i) in
@@ -107,7 +111,7 @@ module _ {A : Type 0} (w : ℕ) (l : List A) (f : ℕ → List A) where
       }
 
   -- a row that stays
-  pub renewed-same : (i : ℕ) {m : List A} → f i ≡ part w l i → i * w + w ≤ length l → Renewed w l f i m → Renewed w l f (i + 1) m
+  renewed-same : (i : ℕ) {m : List A} → f i ≡ part w l i → i * w + w ≤ length l → Renewed w l f i m → Renewed w l f (i + 1) m
   renewed-same i {m} e k r =
       let before : List A = flatMap f (range i) in
       let next : flatMap f (range (i + 1)) ≡ before ++ part w l i = ap (flatMap f) (range-snoc i) ∙ flatMap-snoc f (range i) i ∙ ap (λ (x : List A). before ++ x) e in
@@ -117,14 +121,14 @@ module _ {A : Type 0} (w : ℕ) (l : List A) (f : ℕ → List A) where
         long = ap length next ∙ omega (arith, length-append before (part w l i), length-part w l i k, r .long);
       }
 
-  pub renewed-rest : (k i : ℕ) {m : List A} → ((j : ℕ) → i ≤ j → f j ≡ part w l j) → (i + k) * w ≤ length l → Renewed w l f i m → Renewed w l f (i + k) m
+  renewed-rest : (k i : ℕ) {m : List A} → ((j : ℕ) → i ≤ j → f j ≡ part w l j) → (i + k) * w ≤ length l → Renewed w l f i m → Renewed w l f (i + k) m
   renewed-rest zero i e h r = rw (add-zero i) r
   renewed-rest (suc k) i {m} e h r =
       let g : i + suc k ≡ suc (i + k) = omega arith in
       let size : (i + suc k) * w ≡ (i + k) * w + w = ap (λ (k : ℕ). k * w) g ∙ suc-mul (i + k) w in
       subst (λ (n : ℕ). Renewed w l f n m) (sym (g ∙ sym (add-one (i + k)))) (renewed-same (i + k) (e (i + k) (omega arith)) (omega arith) (renewed-rest k i e (omega arith) r))
 
-  pub renewed-all : (n : ℕ) {m : List A} → length l ≡ n * w → Renewed w l f n m → m ≡ flatMap f (range n)
+  renewed-all : (n : ℕ) {m : List A} → length l ≡ n * w → Renewed w l f n m → m ≡ flatMap f (range n)
   renewed-all n e r =
       let none : drop (n * w) l ≡ [] = drop-of-length-le l {i = n * w} (omega arith) in
       r .holds ∙ ap (λ (x : List A). flatMap f (range n) ++ x) none ∙ append-nil _
@@ -137,23 +141,25 @@ part-long m a k h =
 
 -- ---- the start rows, renewed
 
-module _ (s : Session) {l : List Float} (all : length l ≡ 320) (same : l ≡ s .starts) where
+module _ (s : Session) (all : length (s .starts) ≡ 320) where
   -- the target of source i, written in front of its row
   pub row-made : (i : ℕ) (v : List Float) {m : List Float} → s .panner .«num_outputs» ≤ 40 → i < 8 → i < s .sources → v ≡ target s i → length v ≡ s .panner .«num_outputs»
-      → Renewed 40 l (newStart s) i m → Renewed 40 l (newStart s) (i + 1) (putMid (i * 40) (i * 40 + s .panner .«num_outputs» - i * 40) m v)
+      → Renewed 40 (s .starts) (newStart s) i m
+      → Renewed 40 (s .starts) (newStart s) (i + 1) (putMid (i * 40) (i * 40 + s .panner .«num_outputs» - i * 40) m v)
   unfolding startRow
   row-made i v few g h e k r =
       let size : i * 40 + s .panner .«num_outputs» - i * 40 ≡ s .panner .«num_outputs» = omega arith in
-      let made : newStart s i ≡ v ++ drop (s .panner .«num_outputs») (part 40 l i) = rw (e, same) (start-new s i h) in
-      rw size (renewed-more 40 l (newStart s) i (s .panner .«num_outputs») v made k few (omega arith) r)
+      let made : newStart s i ≡ v ++ drop (s .panner .«num_outputs») (part 40 (s .starts) i) = rw e (start-new s i h) in
+      rw size (renewed-more 40 (s .starts) (newStart s) i (s .panner .«num_outputs») v made k few (omega arith) r)
 
   -- the rows of no source stay
-  pub rows-made : (i : ℕ) {m : List Float} → s .sources ≤ i → i ≤ 8 → Renewed 40 l (newStart s) i m → m ≡ flatMap (newStart s) (range 8)
+  pub rows-made : (i : ℕ) {m : List Float} → s .sources ≤ i → i ≤ 8 → Renewed 40 (s .starts) (newStart s) i m → m ≡ flatMap (newStart s) (range 8)
   unfolding startRow
   rows-made i {m} h g r =
       let e : i + (8 - i) ≡ 8 = omega arith in
-      let stay : (j : ℕ) → i ≤ j → newStart s j ≡ part 40 l j = λ j k. start-old s j (omega arith) ∙ ap (λ (x : List Float). part 40 x j) (sym same) in
-      renewed-all 40 l (newStart s) 8 all (subst (λ (n : ℕ). Renewed 40 l (newStart s) n m) e (renewed-rest 40 l (newStart s) (8 - i) i stay (omega arith) r))
+      let stay : (j : ℕ) → i ≤ j → newStart s j ≡ part 40 (s .starts) j = λ j k. start-old s j (omega arith) in
+      renewed-all 40 (s .starts) (newStart s) 8 all
+      (subst (λ (n : ℕ). Renewed 40 (s .starts) (newStart s) n m) e (renewed-rest 40 (s .starts) (newStart s) (8 - i) i stay (omega arith) r))
 
 -- ---- a gain of a new start row
 
@@ -164,7 +170,7 @@ every-range f (suc n) h =
     ap (λ (k : ℕ). every f (range k)) (sym (add-one n)) ∙ ap (every f) (range-snoc n) ∙ every-snoc f (range n) n
     ∙ rw (every-range f n (λ j g. h j (omega arith)), h n (omega arith))
 
-pub getD-rows : {A : Type 0} (w : ℕ) (f : ℕ → List A) (n i o : ℕ) (d : A) → ((j : ℕ) → j < n → length (f j) ≡ w) → i < n → o < w
+getD-rows : {A : Type 0} (w : ℕ) (f : ℕ → List A) (n i o : ℕ) (d : A) → ((j : ℕ) → j < n → length (f j) ≡ w) → i < n → o < w
     → getD (flatMap f (range n)) (i * w + o) d ≡ getD (f i) o d
 getD-rows {A} w f n i o d e h g =
     let all : every (λ j. eqb (length (f j)) w) (range n) ≡ true = every-range (λ j. eqb (length (f j)) w) n (λ j k. eq-eqb (length (f j)) w (e j k)) in

@@ -63,7 +63,7 @@ fn truth(is: bool) -> Value {
 
 fn of_single(place: usize, x: f32) -> Answer {
     match place {
-        0 => one(pattern32(ieee::sqrt32(x))),
+        0 => one(pattern32(root::sqrt32(x))),
         1 => one(pattern32(ieee::clamp(x))),
         2 => one(pattern32(ieee::abs32(x))),
         3 => one(pattern32(ieee::powi4(x))),
@@ -92,7 +92,7 @@ fn of_singles(place: usize, x: f32, y: f32) -> Answer {
 
 fn of_double(place: usize, x: f64) -> Answer {
     match place {
-        13 => one(pattern64(ieee::sqrt64(x))),
+        13 => one(pattern64(root::sqrt64(x))),
         14 => one(pattern64(ieee::abs64(x))),
         15 => one(pattern64(trig::sin(x))),
         16 => one(pattern64(trig::cos(x))),

@@ -6,6 +6,8 @@ mod report;
 use cases::Cursor;
 use cases::Word;
 use cases::find;
+use cases::is_comment;
+use cases::is_end;
 use cases::lines::Line;
 use cases::lines::Lines;
 use cases::lines::next_line;
@@ -15,6 +17,7 @@ use cases::values::Form;
 use cases::values::Taken;
 use cases::values::Value;
 use cases::values::agree;
+use cases::values::bits_of;
 use cases::values::take;
 use functions::COUNT;
 use functions::compute;
@@ -68,20 +71,6 @@ fn second(line: &[u8], c: Cursor, count: usize, form: Form, expected: bool) -> T
         good: true,
         value: Value::Bits(0),
         next: c,
-    }
-}
-
-fn is_end(line: &[u8], c: Cursor) -> bool {
-    let step = next_word(line, c);
-    let word = step.word;
-    if let Word::End = word { true } else { false }
-}
-
-// The bits of an argument, which is never written nan.
-fn bits_of(v: Value) -> u64 {
-    match v {
-        Value::Bits(b) => b,
-        Value::Nan => 0,
     }
 }
 
@@ -144,13 +133,6 @@ fn check_line(line: &[u8], names: &[u8]) -> Outcome {
     Outcome::Malformed
 }
 
-fn is_comment(line: &[u8]) -> bool {
-    if line.len() == 0 {
-        return false;
-    }
-    line[0] == b'#'
-}
-
 fn counted(counts: &mut [u64; 27], place: usize) {
     if place < 27 {
         counts[place] = std::num::wrapping_add_u64(counts[place], 1);
@@ -193,7 +175,7 @@ fn replay_line(
 
 fn malformed(line: &[u8], number: u64, differences: u64) -> u64 {
     if differences < SHOWN {
-        report::malformed(line, number);
+        cases::report::malformed(line, number);
     }
     std::num::wrapping_add_u64(differences, 1)
 }

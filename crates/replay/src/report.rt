@@ -1,8 +1,10 @@
 // What a replay writes to standard output.
 use cases::find;
+use cases::report::ended;
+use cases::report::heading;
+use cases::report::row;
 use cases::values::Form;
 use cases::values::Value;
-use io::print_decimal;
 use io::print_hex;
 use io::write_all;
 use libc::STDOUT_FILENO;
@@ -29,13 +31,6 @@ fn write_value(form: Form, v: Value) {
     }
 }
 
-fn heading(line: &[u8], number: u64) {
-    write_all(STDOUT_FILENO, b"line ");
-    print_decimal(STDOUT_FILENO, number);
-    write_all(STDOUT_FILENO, b": ");
-    write_all(STDOUT_FILENO, line);
-}
-
 // The line, and what the function answered.
 pub fn differs(line: &[u8], number: u64, form: Form, results: usize, first: Value, second: Value) {
     heading(line, number);
@@ -44,22 +39,6 @@ pub fn differs(line: &[u8], number: u64, form: Form, results: usize, first: Valu
     if results == 2 {
         write_value(form, second);
     }
-    write_all(STDOUT_FILENO, b"\n");
-}
-
-pub fn malformed(line: &[u8], number: u64) {
-    heading(line, number);
-    write_all(STDOUT_FILENO, b" malformed\n");
-}
-
-// A name and how many cases it had, where it had any.
-fn row(name: &[u8], count: u64) {
-    if count == 0 {
-        return;
-    }
-    write_all(STDOUT_FILENO, name);
-    write_all(STDOUT_FILENO, b" ");
-    print_decimal(STDOUT_FILENO, count);
     write_all(STDOUT_FILENO, b"\n");
 }
 
@@ -83,9 +62,5 @@ fn rows(names: &[u8], counts: &[u64; 27]) -> u64 {
 
 pub fn totals(names: &[u8], counts: &[u64; 27], differences: u64) {
     let sum = rows(names, counts);
-    write_all(STDOUT_FILENO, b"cases ");
-    print_decimal(STDOUT_FILENO, sum);
-    write_all(STDOUT_FILENO, b"\ndifferences ");
-    print_decimal(STDOUT_FILENO, differences);
-    write_all(STDOUT_FILENO, b"\n");
+    ended(sum, differences);
 }

@@ -5,12 +5,12 @@ mod report;
 use call_words::sums;
 use cases::Cursor;
 use cases::Word;
+use cases::is_comment;
+use cases::is_named;
 use cases::lines::Line;
 use cases::lines::Lines;
 use cases::lines::next_line;
 use cases::next_word;
-use replay_row::is_comment;
-use replay_row::is_named;
 use replay_row::words::Walk;
 use replay_session::Outcome;
 use replay_session::call;
@@ -251,7 +251,7 @@ fn turn(
 fn no_session() -> Session {
     let positions = [0.0f32; 0];
     let lfe = [0usize; 0];
-    let opened = session::open(&positions, &lfe, 0);
+    let opened = session_open::open(&positions, &lfe, 0);
     let session = opened.session;
     session
 }

@@ -1,21 +1,12 @@
 // What a replay writes to standard output.
+use cases::report::heading;
+use cases::report::write_value;
 use cases::values::Value;
 use io::print_decimal;
 use io::print_hex;
 use io::write_all;
 use libc::STDOUT_FILENO;
 use replay_session::Outcome;
-
-fn write_value(v: Value) {
-    match v {
-        Value::Bits(b) => {
-            print_hex(STDOUT_FILENO, b, 8);
-        }
-        Value::Nan => {
-            write_all(STDOUT_FILENO, b"nan");
-        }
-    }
-}
 
 fn write_float(what: &[u8], place: usize, got: Value) {
     write_all(STDOUT_FILENO, what);
@@ -58,10 +49,7 @@ fn write_outcome(outcome: Outcome) {
 
 // The line, and what was answered where it first differs.
 pub fn differs(line: &[u8], number: u64, outcome: Outcome) {
-    write_all(STDOUT_FILENO, b"line ");
-    print_decimal(STDOUT_FILENO, number);
-    write_all(STDOUT_FILENO, b": ");
-    write_all(STDOUT_FILENO, line);
+    heading(line, number);
     write_outcome(outcome);
     write_all(STDOUT_FILENO, b"\n");
 }

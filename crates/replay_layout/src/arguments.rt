@@ -2,7 +2,7 @@
 ghost use Prim.Native.Nat.{_≤_};
 use cases::Cursor;
 use cases::values::Form;
-use cases::values::Value;
+use cases::values::bits_of;
 use cases::values::single;
 use cases::values::take;
 
@@ -11,14 +11,6 @@ pub struct Given {
     pub count: usize,
     pub good: bool,
     pub next: Cursor,
-}
-
-// The bits of an argument, which is never written nan.
-fn bits_of(v: Value) -> u64 {
-    match v {
-        Value::Bits(b) => b,
-        Value::Nan => 0,
-    }
 }
 
 // A count, which the array for the list has to hold.

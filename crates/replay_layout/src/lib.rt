@@ -9,11 +9,12 @@ mod walk;
 ghost use Prim.Native.Nat.{_≤_};
 use cases::Cursor;
 use cases::Word;
+use cases::is_comment;
+use cases::is_named;
 use cases::lines::Line;
 use cases::lines::Lines;
 use cases::lines::next_line;
 use cases::next_word;
-use cases::same;
 use fields::MALFORMED;
 use fields::NONE;
 use layout::NewPanner;
@@ -34,14 +35,6 @@ struct State {
     lines: Lines,
     counts: Counts,
     goes_on: bool,
-}
-
-// Whether the word that ends at an index of the line is `new`.
-fn is_new(line: &[u8], to: usize) -> bool {
-    if to > line.len() {
-        return false;
-    }
-    same(&line[..to], b"new")
 }
 
 // What `layout::new` answers on the first n numbers and the first m entries.
@@ -77,18 +70,11 @@ fn check_line(line: &[u8]) -> u32 {
     let word = step.word;
     let next = step.next;
     if let Word::Name(_, to) = word {
-        if is_new(line, to) {
+        if is_named(line, to, b"new") {
             return check_call(line, next);
         }
     }
     MALFORMED
-}
-
-fn is_comment(line: &[u8]) -> bool {
-    if line.len() == 0 {
-        return false;
-    }
-    line[0] == b'#'
 }
 
 // With a case more, whose first field that differs is given.
@@ -186,5 +172,5 @@ pub fn run() {
     let mut buf = io::large_buffer();
     let s = replay_all(&mut buf);
     let c = s.counts;
-    report::totals(c.cases, c.differences);
+    cases::report::ended(c.cases, c.differences);
 }

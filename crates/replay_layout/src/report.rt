@@ -11,11 +11,3 @@ pub fn differs(number: u64, field: u32) {
     crate::fields::write_name(field);
     write_all(STDOUT_FILENO, b"\n");
 }
-
-pub fn totals(cases: u64, differences: u64) {
-    write_all(STDOUT_FILENO, b"cases ");
-    print_decimal(STDOUT_FILENO, cases);
-    write_all(STDOUT_FILENO, b"\ndifferences ");
-    print_decimal(STDOUT_FILENO, differences);
-    write_all(STDOUT_FILENO, b"\n");
-}

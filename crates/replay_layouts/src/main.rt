@@ -1,4 +1,4 @@
-// Replays the cases of chosen layouts: examples, edges, refusals, and layouts as they are installed.
+// Replays the cases of layouts: chosen ones (examples, edges, refusals, layouts as they are installed), then drawn ones.
 fn main() {
     replay_layout::run();
 }

@@ -8,11 +8,12 @@ ghost use Prim.Native.Nat.{_≤_};
 ghost use lib.ListN.{length};
 use cases::Cursor;
 use cases::Word;
+use cases::is_comment;
+use cases::is_named;
 use cases::lines::Line;
 use cases::lines::Lines;
 use cases::lines::next_line;
 use cases::next_word;
-use cases::same;
 use results::Outcome;
 
 // How many lines that differ are written. Origin: docs/CASES.md, "Replaying".
@@ -101,7 +102,7 @@ fn told(line: &[u8], c: Counts, outcome: Outcome) -> Counts {
         }
         Outcome::Malformed => {
             if c.differences < SHOWN {
-                report::malformed(line, number);
+                cases::report::malformed(line, number);
             }
             1
         }
@@ -130,21 +131,6 @@ fn with_mix(c: Counts) -> Counts {
         mixes: std::num::wrapping_add_u64(c.mixes, 1),
         differences: c.differences,
     }
-}
-
-// Whether the word that ends at an index of the line is a name.
-fn is_named(line: &[u8], to: usize, name: &[u8]) -> bool {
-    if to > line.len() {
-        return false;
-    }
-    same(&line[..to], name)
-}
-
-fn is_comment(line: &[u8]) -> bool {
-    if line.len() == 0 {
-        return false;
-    }
-    line[0] == b'#'
 }
 
 // A line that is no comment.

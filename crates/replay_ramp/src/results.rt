@@ -1,8 +1,7 @@
 // What was answered compared with the rest of a line.
 ghost use Prim.Native.Nat.{_≤_};
 use cases::Cursor;
-use cases::Word;
-use cases::next_word;
+use cases::is_end;
 use cases::values::Form;
 use cases::values::Value;
 use cases::values::agree;
@@ -47,12 +46,6 @@ fn compared(line: &[u8], c: Cursor, got: &[f32; 1024], n: usize) -> Found
         i += 1;
     }
     Found { good, place, next }
-}
-
-fn is_end(line: &[u8], c: Cursor) -> bool {
-    let step = next_word(line, c);
-    let word = step.word;
-    if let Word::End = word { true } else { false }
 }
 
 // The first n samples compared with the words from a cursor to the line's end.

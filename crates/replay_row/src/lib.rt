@@ -8,11 +8,12 @@ pub mod words;
 
 use cases::Cursor;
 use cases::Word;
+use cases::is_comment;
+use cases::is_named;
 use cases::lines::Line;
 use cases::lines::Lines;
 use cases::lines::next_line;
 use cases::next_word;
-use cases::same;
 use cases::values::Value;
 use panner::VbapPanner;
 use words::Walk;
@@ -51,14 +52,6 @@ struct State {
 
 // ---- a line
 
-// Whether the word that ends at an index of the line is a name.
-pub fn is_named(line: &[u8], to: usize, name: &[u8]) -> bool {
-    if to > line.len() {
-        return false;
-    }
-    same(&line[..to], name)
-}
-
 // The place of the name that ends at an index of the line: `layout`, `record`, `gains`, `num_outputs`; 4 for any other.
 fn place_of(line: &[u8], to: usize) -> usize {
     if is_named(line, to, b"layout") {
@@ -93,13 +86,6 @@ fn name_of(line: &[u8]) -> Named {
         };
     }
     Named { place: 4, next }
-}
-
-pub fn is_comment(line: &[u8]) -> bool {
-    if line.len() == 0 {
-        return false;
-    }
-    line[0] == b'#'
 }
 
 fn counted(counts: &mut [u64; 4], place: usize) {

@@ -1,21 +1,13 @@
 // What a replay writes to standard output.
 use crate::Outcome;
+use cases::report::ended;
+use cases::report::heading;
+use cases::report::row;
+use cases::report::write_value;
 use cases::values::Value;
 use io::print_decimal;
-use io::print_hex;
 use io::write_all;
 use libc::STDOUT_FILENO;
-
-fn write_value(v: Value) {
-    match v {
-        Value::Bits(b) => {
-            print_hex(STDOUT_FILENO, b, 8);
-        }
-        Value::Nan => {
-            write_all(STDOUT_FILENO, b"nan");
-        }
-    }
-}
 
 fn write_place(place: usize, got: Value) {
     write_all(STDOUT_FILENO, b" at ");
@@ -48,22 +40,8 @@ fn write_outcome(outcome: Outcome) {
 
 // The line, and what was answered where it first differs.
 pub fn differs(line: &[u8], number: u64, outcome: Outcome) {
-    write_all(STDOUT_FILENO, b"line ");
-    print_decimal(STDOUT_FILENO, number);
-    write_all(STDOUT_FILENO, b": ");
-    write_all(STDOUT_FILENO, line);
+    heading(line, number);
     write_outcome(outcome);
-    write_all(STDOUT_FILENO, b"\n");
-}
-
-// A name and how many cases it had, where it had any.
-fn row(name: &[u8], count: u64) {
-    if count == 0 {
-        return;
-    }
-    write_all(STDOUT_FILENO, name);
-    write_all(STDOUT_FILENO, b" ");
-    print_decimal(STDOUT_FILENO, count);
     write_all(STDOUT_FILENO, b"\n");
 }
 
@@ -78,9 +56,5 @@ pub fn totals(counts: &[u64; 4], differences: u64) {
     row(b"record", counts[1]);
     row(b"gains", counts[2]);
     row(b"num_outputs", counts[3]);
-    write_all(STDOUT_FILENO, b"cases ");
-    print_decimal(STDOUT_FILENO, sum(counts));
-    write_all(STDOUT_FILENO, b"\ndifferences ");
-    print_decimal(STDOUT_FILENO, differences);
-    write_all(STDOUT_FILENO, b"\n");
+    ended(sum(counts), differences);
 }

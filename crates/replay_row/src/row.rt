@@ -28,13 +28,6 @@ fn coded(v: Value) -> u64 {
     }
 }
 
-fn decoded(bits: u64) -> Value {
-    if bits == NAN {
-        return Value::Nan;
-    }
-    Value::Bits(bits)
-}
-
 fn lesser(a: usize, b: usize) -> usize
     ensures { λ r. ⌜ (r ≤ a) × (r ≤ b) ⌝ }
 {

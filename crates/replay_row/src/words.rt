@@ -5,7 +5,7 @@ use cases::Cursor;
 use cases::Word;
 use cases::next_word;
 use cases::values::Form;
-use cases::values::Value;
+use cases::values::bits_of;
 use cases::values::single;
 use cases::values::take;
 
@@ -28,14 +28,6 @@ pub struct Byte {
 pub struct Float {
     pub value: f32,
     pub walk: Walk,
-}
-
-// The bits of an argument, which is never written nan.
-fn bits_of(v: Value) -> u64 {
-    match v {
-        Value::Bits(b) => b,
-        Value::Nan => 0,
-    }
 }
 
 pub fn size(x: u8) -> usize

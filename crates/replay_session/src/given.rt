@@ -10,8 +10,8 @@ use replay_row::speakers::positions;
 use replay_row::words::Walk;
 use replay_row::words::read_byte;
 use replay_row::words::read_whole;
-use session::Opened;
 use session::Session;
+use session_open::Opened;
 
 // What `open` answers on the arguments of a line, and the words behind them.
 pub struct OpenedHere {
@@ -33,7 +33,7 @@ fn open_of(positions: &[f32; 256], n: usize, lfe: &[usize; 64], m: usize, source
 {
     let numbers = &positions[..];
     let entries = &lfe[..];
-    session::open(&numbers[..n], &entries[..m], sources)
+    session_open::open(&numbers[..n], &entries[..m], sources)
 }
 
 pub fn read_open(line: &[u8], w: Walk) -> OpenedHere {

@@ -1,19 +1,19 @@
 -- The crossfade's shaped fraction t⁴ ÷ (t⁴ + (1 − t)⁴) is at most 16 for t from 0 to 1: one of t and 1 − t is 1/2 at least, so the divisor is 1/16 at least. Assumes nothing.
-use mathlib.Core.Path.{_≡_, refl, sym, _∙_, subst}
+use mathlib.Core.Path.{refl, sym, _∙_, subst}
 use mathlib.Core.Logic.{_⊎_, inl, inr}
 use Prim.Native.Nat.{ℕ, _+_, _-_, _*_, _^_, _≤_, _<_, zero-le}
-use native.Mathlib.Nat.{le-refl, le-trans, lt-of-le-of-lt, mul-pos, mul-le-mul, mul-le-mul-right}
+use native.Mathlib.Nat.{le-refl, le-trans, add-le-add, le-add-right, le-add-left, sub-le, lt-of-le-of-lt, mul-pos, mul-le-mul, mul-le-mul-right}
 use native.Mathlib.Omega.{arith}
 use mathlib.Core.Bool.{Bool, false}
 use lib.Dec.{lit≤, lit<}
 use lib.Pow.{pow-pos}
-use lib.Ieee.{Float, binary32, unlike, add, sub, neg, mul}
+use lib.Ieee.{Float, binary32, unlike, sub, mul}
 use lib.Ieee.Scale.{grid, overflow}
 use Rattle.ieee.specs.Values.{1·0}
 use Rattle.ieee.specs.Order.{squareOf, powi4Of}
 use Rattle.ieee.proofs.Grid.{le-or-lt}
 use Rattle.planar_row.specs.PlanarRow.{shaped}
-use Rattle.bounds.proofs.Units.{Val, round-Val, mul-round, add-round, sub-rest, neg-val}
+use Rattle.bounds.proofs.Units.{Val, round-Val, mul-round, add-round, sub-rest, sub-is, neg-val}
 use Rattle.bounds.proofs.Held.{Held, held, held-val, grid-le, grid-ge}
 use Rattle.bounds.proofs.Size.{Mag, val-mag, mag-div, unlike-self, sum-val}
 use Rattle.bounds.proofs.Compare.{FromZero}
@@ -54,35 +54,20 @@ unfolding shaped
 shaped-by {t} {s} {X} {U} v le u U-le half =
     let f = fourth-val v le in
     let g = fourth-val u U-le in
-    let z = sum-val (2 * L) (f .1) (g .1) (held binary32 2 149 (lit≤ tt)) (lit< tt) (plus (f .0) (g .0) L (f .2) (g .2)) in
-    let some : 2 ^ 145 ≤ f .0 + g .0 = elim half [ inl h ↦ first (f .0) (g .0) (2 ^ 145) (f .3 h) | inr h ↦ second (f .0) (g .0) (2 ^ 145) (g .3 h) ] in
+    let z = sum-val (2 * L) (f .1) (g .1) (held binary32 2 149 (lit≤ tt)) (lit< tt) (le-trans (add-le-add (f .2) (g .2)) (lit≤ tt)) in
+    let some : 2 ^ 145 ≤ f .0 + g .0 = elim half [ inl h ↦ le-trans (f .3 h) (le-add-right (f .0) (g .0)) | inr h ↦ le-trans (g .3 h) (le-add-left (g .0) (f .0)) ] in
     mag-div (16 * L) (2 ^ 145) (val-mag L (f .1) (f .2)) (z .val) (z .least (2 ^ 145) (held binary32 1 145 (lit≤ tt)) some) (lit< tt) (held binary32 16 149 (lit≤ tt)) (lit< tt) (lit≤ tt)
-  where
-    plus : (a b l : ℕ) → a ≤ l → b ≤ l → a + b ≤ 2 * l
-    plus a b l h k = omega arith
-
-    first : (a b c : ℕ) → c ≤ a → c ≤ a + b
-    first a b c h = omega arith
-
-    second : (a b c : ℕ) → c ≤ b → c ≤ a + b
-    second a b c h = omega arith
 
 pub shaped-mag : {t : Float} → FromZero binary32 t L → Mag binary32 (shaped t) (16 * L)
 shaped-mag {t} (inl h) =
     let X = h .X in
     let U = grid binary32 (L - X) L in
-    let U-le : U ≤ L = grid-le binary32 (L - X) L L (pow-pos 149) one-held (lit< tt) (mul-le-mul-right L (less L X)) in
+    let U-le : U ≤ L = grid-le binary32 (L - X) L L (pow-pos 149) one-held (lit< tt) (mul-le-mul-right L (sub-le L X)) in
     let half : (2 ^ 148 ≤ X) ⊎ (2 ^ 148 ≤ U) = elim (le-or-lt (2 ^ 148) X) [ inl k ↦ inl k | inr k ↦ inr (grid-ge binary32 (L - X) L (2 ^ 148) (pow-pos 149) (held binary32 1 148 (lit≤ tt)) (lit< tt) (mul-le-mul-right L (rest X (2 ^ 148) L k (lit≤ tt)))) ] in
     shaped-by (h .val) (h .most) (subst (λ (z : Float). Val binary32 z false U) (sym (sub-rest one-val (h .val) (h .most))) (round-Val binary32 false (L - X) L (lt-of-le-of-lt U-le (lit< tt)))) U-le half
   where
-    less : (a b : ℕ) → a - b ≤ a
-    less a b = omega arith
-
     rest : (X h l : ℕ) → X < h → 2 * h ≤ l → h ≤ l - X
     rest X h l a b = omega arith
 shaped-mag {t} (inr v) =
-    let w : Val binary32 (sub binary32 1·0 t) false L = subst (λ (z : Float). Val binary32 z false L) (sym (opened 1·0 t ∙ add-round one-val (neg-val v))) (held-val binary32 L one-held (lit< tt)) in
+    let w : Val binary32 (sub binary32 1·0 t) false L = subst (λ (z : Float). Val binary32 z false L) (sym (sub-is binary32 1·0 t ∙ add-round one-val (neg-val v))) (held-val binary32 L one-held (lit< tt)) in
     shaped-by v zero-le w (le-refl L) (inr (lit≤ tt))
-  where
-    opened : (x y : Float) → sub binary32 x y ≡ add binary32 x (neg y)
-    opened x y = unfold sub in refl

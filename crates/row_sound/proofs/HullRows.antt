@@ -10,19 +10,20 @@ use mathlib.Core.Option.{Option, none, some}
 use lib.IntN.{pos}
 use lib.Dec.{T, lit≤, lit<, ltb}
 use lib.ListN.{length, getD, replicate}
-use lib.Ieee.{Float, nan, inf, binary32, size, add, mul, div, lt, fits}
+use lib.Ieee.{Float, nan, binary32, size, add, mul, div, lt, fits}
 use lib.Ieee.Fits.{ofInt-fits}
 use lib.Ieee.Scale.{overflow, finite}
-use Rattle.lists.specs.Lists.{range, isEmpty, part}
+use Rattle.lists.specs.Lists.{range, isEmpty, part, Each}
 use Rattle.lists.proofs.Parts.{length-part}
 use Rattle.ieee.specs.Values.{+0, 1·0}
 use Rattle.ieee.specs.Order.{maxOf}
-use Rattle.ieee.specs.Root.{sqrtOf}
+use Rattle.root.specs.Root.{sqrtOf}
 use Rattle.vector.specs.Vector.{Vector, dotIn, dirVecOf}
 use Rattle.hull.specs.Triplets.{Triplet}
 use Rattle.panner.specs.Shape.{HullShape}
 use Rattle.planar_row.specs.PlanarRow.{addAt, count32}
-use Rattle.hull_row.specs.HullRow.{maxImaginary, Aimed, aimed, better, bestOf, nearestPoint, nearestRow, Filling, give, filling, shared, tripletRow, rowBy, hullRow}
+use Rattle.filling.specs.Filling.{maxImaginary}
+use Rattle.hull_row.specs.HullRow.{Aimed, aimed, bestOf, nearestPoint, nearestRow, Filling, give, filling, shared, tripletRow, rowBy, hullRow}
 use Rattle.bounds.proofs.Units.{Val}
 use Rattle.bounds.proofs.Held.{Held, held}
 use Rattle.bounds.proofs.Size.{Mag, mag-neg, mag-add, mag-mul, mag-div, mag-absorb, val-mag}
@@ -30,10 +31,9 @@ use Rattle.bounds.proofs.Root.{sqrt-val}
 use Rattle.bounds.proofs.Sine.{sin32-mag, cos32-mag}
 use Rattle.bounds.proofs.Top.{mag-top}
 use Rattle.bounds.proofs.Order.{zero-mag, max-mag, count-val}
-use Rattle.sound.specs.Sound.{Each, Within, SoundTriplet, largestInverse}
-use Rattle.sound.proofs.Each.{Some, each-imply, each-getD, each-part, each-map, foldl-keeps}
-use Rattle.row_sound.specs.RowSound.{unscaled}
-use Rattle.row_sound.proofs.Places.{Row, zeros, each-set, add-at, row-more}
+use Rattle.sound.specs.Sound.{Within, SoundTriplet, largestInverse}
+use Rattle.lists.proofs.Each.{Some, each-imply, each-getD, each-or, each-part, foldl-always, each-set}
+use Rattle.row_sound.proofs.Places.{Row, zeros, add-at, row-more}
 use Rattle.row_sound.proofs.Pairs.{L, inverse-mag}
 use Rattle.row_sound.proofs.Powers.{B60, scaled-row}
 
@@ -87,17 +87,13 @@ module _ (s : Vector) (q : Three L s) where
           }
 
   pub best-three : (n : ℕ) (tris : List Triplet) → Each (SoundTriplet n) tris → Some Aim (bestOf s tris)
-  unfolding bestOf better
-  best-three n tris h =
-      foldl-keeps (Some Aim) Aim better (λ b a k g. by b a k g) (map (aimed s) tris) (each-map Aim (aimed s) tris (each-imply (SoundTriplet n) (λ t. Aim (aimed s t)) aimed-three tris h)) none tt
+  unfolding bestOf
+  best-three n tris h = at tris _ (each-imply (SoundTriplet n) (λ t. Aim (aimed s t)) aimed-three tris h)
     where
-      pick : (c : Bool) (a : Aimed) (o : Option Aimed) → Aim a → Some Aim o → Some Aim (cond c (some a) o)
-      pick true a o k g = k
-      pick false a o k g = g
-
-      by : (b : Option Aimed) (a : Aimed) → Aim a → Some Aim b → Some Aim (better b a)
-      by none a k g = pick (lt (inf true) (a .least)) a none k g
-      by (some b) a k g = pick (lt (b .least) (a .least)) a (some b) k g
+      at : (l : List Triplet) (i : ℕ) → Each (λ t. Aim (aimed s t)) l → Some Aim (getD (map (λ t. some (aimed s t)) l) i none)
+      at [] i e = tt
+      at (t ∷ l) zero e = e .0
+      at (t ∷ l) (suc i) e = at l i (e .1)
 
 -- ---- a triplet's gains into the row
 
@@ -130,12 +126,6 @@ filling-filled n h t g m =
 
 -- ---- the shares of imaginary points
 
--- an element, or what a place outside gives
-getD-or : {A : Type 0} (P : A → Type 0) (l : List A) (k : ℕ) (d : A) → Each P l → P (getD l k d) ⊎ (getD l k d ≡ d)
-getD-or P [] k d h = inr refl
-getD-or P (a ∷ l) zero d h = inl (h .0)
-getD-or P (a ∷ l) (suc k) d h = getD-or P l k d (h .1)
-
 -- at most 40 neighbours
 abbrev pub Few : List ℕ → Type 0
 Few ns = length ns ≤ 40
@@ -149,8 +139,7 @@ root-count n p few =
 
 add-shares : (w : Float) → Mag binary32 w B35 → (l : List ℕ) (row : List Float) → Row B60 row → Row B60 (foldl (λ r o. addAt r o w) row l)
 unfolding size
-add-shares w m [] row h = h
-add-shares w m (o ∷ l) row h = add-shares w m l (addAt row o w) (add-at B60 B60 row o w (le-refl B60) h (λ u k. mag-absorb k m (lit≤ tt) (lit< tt)))
+add-shares w m l row h = foldl-always (Row B60) (λ r o. addAt r o w) (λ r o k. add-at B60 B60 r o w (le-refl B60) k (λ u n. mag-absorb n m (lit≤ tt) (lit< tt))) l row h
 
 share-row : (g : Float) (ns : List ℕ) (row : List Float) → Mag binary32 g B35 ⊎ (g ≡ nan) → Few ns → Row B60 row
     → Row B60 (cond (lt +0 g && not (isEmpty ns)) (foldl (λ r o. addAt r o (div binary32 g (sqrtOf binary32 (count32 (length ns))))) row ns) row)
@@ -172,19 +161,19 @@ share-row g (o ∷ l) row (inl m) few h = by (lt +0 g)
 
 shared-rows : (h : HullShape) (imag : List Float) → Row B35 imag → Each Few (h .imag) → (ks : List ℕ) (row : List Float) → Row B60 row → Row B60 (foldl (shared h imag) row ks)
 unfolding shared
-shared-rows h imag m few [] row r = r
-shared-rows h imag m few (k ∷ ks) row r =
-    shared-rows h imag m few ks (shared h imag row k)
-    (share-row (getD imag k nan) (getD (h .imag) k []) row (getD-or (λ g. Mag binary32 g B35) imag k nan m) (neighbours k (getD-or Few (h .imag) k [] few)) r)
-  where
-    neighbours : (k : ℕ) → Few (getD (h .imag) k []) ⊎ (getD (h .imag) k [] ≡ []) → Few (getD (h .imag) k [])
-    neighbours k (inl f) = f
-    neighbours k (inr e) = subst Few (sym e) zero-le
+shared-rows h imag m few ks row r =
+    let P : Float → Type 0 = λ g. Mag binary32 g B35 ⊎ (g ≡ nan) in
+    let gains : Each P imag = each-imply (λ g. Mag binary32 g B35) P (λ g k. inl k) imag m in
+    foldl-always (Row B60) (shared h imag)
+    (λ r k n. share-row (getD imag k nan) (getD (h .imag) k []) r (each-or P imag k nan gains (inr refl)) (each-or Few (h .imag) k [] few zero-le) n) ks row r
 
 -- ---- the row
 
--- of a triplet, before it is scaled
-pub unscaled-row : (n : ℕ) (h : HullShape) (t : Triplet) (g : List Float) → Three G g → Each Few (h .imag) → Row B60 (unscaled n h t g)
+-- of a triplet, before it is scaled: `tripletRow` without its last step
+unscaled : ℕ → HullShape → Triplet → List Float → List Float
+unscaled n h t g = let f = filling n h t g in foldl (shared h (f .imag)) (f .row) (range (min (length (h .imag)) maxImaginary))
+
+unscaled-row : (n : ℕ) (h : HullShape) (t : Triplet) (g : List Float) → Three G g → Each Few (h .imag) → Row B60 (unscaled n h t g)
 unfolding unscaled
 unscaled-row n h t g k few =
     let f = filling-filled n h t g k in

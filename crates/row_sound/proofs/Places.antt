@@ -1,15 +1,14 @@
 -- Rows of bounded gains: what a store and an addition at a place keep. Assumes nothing.
-use Prim.Native.Nat.{ℕ, zero, suc, _≤_, _<_}
-use native.Mathlib.Omega.{arith}
-use mathlib.Core.List.{List, [], _∷_}
-use lib.ListN.{length, getD, set, replicate}
+use Prim.Native.Nat.{ℕ, _≤_}
+use mathlib.Core.List.{List}
+use lib.ListN.{getD, replicate}
 use lib.Ieee.{Float, nan, binary32, add}
 use Rattle.ieee.specs.Values.{+0}
 use Rattle.planar_row.specs.PlanarRow.{addAt}
 use Rattle.bounds.proofs.Size.{Mag, mag-more}
 use Rattle.bounds.proofs.Order.{zero-mag}
-use Rattle.sound.specs.Sound.{Each}
-use Rattle.sound.proofs.Each.{each-imply, each-getD, each-replicate}
+use Rattle.lists.proofs.Each.{each-imply, each-getD, each-set, each-replicate}
+use Rattle.lists.specs.Lists.{Each}
 
 -- every gain is at most B smallest values in size
 abbrev pub Row : ℕ → List Float → Type 0
@@ -20,12 +19,6 @@ zeros B n = each-replicate (λ g. Mag binary32 g B) n +0 zero-mag
 
 pub row-more : (A B : ℕ) → A ≤ B → (row : List Float) → Row A row → Row B row
 row-more A B l row h = each-imply (λ g. Mag binary32 g A) (λ g. Mag binary32 g B) (λ g m. mag-more l m) row h
-
--- a store within the row
-pub each-set : {A : Type 0} (P : A → Type 0) (l : List A) (i : ℕ) (a : A) → Each P l → (i < length l → P a) → Each P (set l i a)
-each-set P [] i a h k = tt
-each-set P (b ∷ l) zero a h k = (k (omega arith), h .1)
-each-set P (b ∷ l) (suc i) a h k = (h .0, each-set P l i a (h .1) (λ g. k (omega arith)))
 
 -- what is added to a gain gives one within C
 pub add-at : (A C : ℕ) (row : List Float) (i : ℕ) (v : Float) → A ≤ C → Row A row → ((g : Float) → Mag binary32 g A → Mag binary32 (add binary32 g v) C) → Row C (addAt row i v)

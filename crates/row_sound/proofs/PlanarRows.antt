@@ -1,8 +1,8 @@
 -- A planar row is finite: each gain over the norm is at most 2, since the norm is at least half of it; and the spread takes no gain above 2 ^ 40. Assumes nothing.
 use mathlib.Core.Path.{_≡_, refl, sym, subst}
 use mathlib.Core.Logic.{inl, inr}
-use Prim.Native.Nat.{ℕ, suc, _+_, _-_, _*_, _^_, _≤_, _<_, zero-le}
-use native.Mathlib.Nat.{le-trans, le-of-eq, le-of-lt, lt-of-lt-of-le, lt-of-le-of-lt, mul-pos, mul-le-mul, mul-le-mul-right, one-mul, eq-zero-or-pos, not-suc-le-zero}
+use Prim.Native.Nat.{ℕ, suc, _-_, _*_, _^_, _≤_, _<_, zero-le}
+use native.Mathlib.Nat.{le-trans, le-of-eq, add-le-add, le-add-right, le-add-left, le-of-lt, lt-of-lt-of-le, lt-of-le-of-lt, mul-pos, mul-le-mul, mul-le-mul-right, one-mul, eq-zero-or-pos, not-suc-le-zero}
 use native.Mathlib.Omega.{arith}
 use mathlib.Core.Bool.{Bool, true, false, not, _&&_, cond}
 use mathlib.Core.List.{List, [], _∷_, foldl}
@@ -12,12 +12,12 @@ use lib.ListN.{length, set, replicate}
 use lib.Ieee.{Float, nan, binary32, size, unlike, add, sub, mul, div, lt, fits, ofBits}
 use lib.Ieee.Fits.{add-fits}
 use lib.Ieee.Scale.{grid, finite}
-use Rattle.lists.specs.Lists.{isEmpty, firstThat, last}
+use Rattle.lists.specs.Lists.{isEmpty, last, Each}
 use Rattle.ieee.specs.Values.{+0, 1·0}
 use Rattle.ieee.specs.Order.{squareOf}
-use Rattle.ieee.specs.Root.{sqrtOf}
+use Rattle.root.specs.Root.{sqrtOf}
 use Rattle.planar.specs.declared.PlanarPair.{PlanarPair}
-use Rattle.planar_row.specs.PlanarRow.{planarMaxElevation, halfPi32, count32, leastPower, addAt, contains, chosen, Two, byLaw, planarSpread, spreadAt, spread, pairRow, planarRow}
+use Rattle.planar_row.specs.PlanarRow.{planarMaxElevation, halfPi32, count32, leastPower, addAt, contains, chosen, Two, byLaw, planarSpread, spreadGain, spreadAt, spread, pairRow, planarRow}
 use Rattle.bounds.proofs.Units.{Val, unitsOf, mul-round, div-round, round-Val}
 use Rattle.bounds.proofs.Held.{held, fits-held, grid-held, grid-le}
 use Rattle.bounds.proofs.Size.{Mag, Most, most-of, most-sign, val-mag, mag-more, mag-add, mag-mul, mag-div, mul-most, times-most, square-most, rest-most, div-most, most-absorb, round-mag, sum-val, unlike-self}
@@ -27,9 +27,9 @@ use Rattle.bounds.proofs.Norm.{norm-part}
 use Rattle.bounds.proofs.Sine.{sin32-mag}
 use Rattle.bounds.proofs.Top.{top32, mag-top, mag-sub-top}
 use Rattle.bounds.proofs.Order.{clamp-unit, count-val}
-use Rattle.sound.specs.Sound.{Each, SoundPair}
-use Rattle.sound.proofs.Each.{each-getD, each-last}
-use Rattle.row_sound.proofs.Places.{Row, zeros, each-set, add-at}
+use Rattle.sound.specs.Sound.{SoundPair}
+use Rattle.lists.proofs.Each.{each-getD, each-first, each-last, each-set, foldl-always}
+use Rattle.row_sound.proofs.Places.{Row, zeros, add-at}
 use Rattle.row_sound.proofs.Pairs.{L, half-mag, Gain, Gains, pair-gains}
 
 -- ---- over the norm
@@ -59,7 +59,7 @@ module _ {a b : Float} (p : Gain a) (q : Gain b) (above : T (lt leastPower (norm
       let Y = q .most .X in
       let A = grid binary32 (X * X) (L * L) in
       let B = grid binary32 (Y * Y) (L * L) in
-      let s = sum-val (2 ^ 65 * L) (i .0) (j .0) (held binary32 1 214 (lit≤ tt)) (lit< tt) (both A B (2 ^ 64 * L) (i .1) (j .1)) in
+      let s = sum-val (2 ^ 65 * L) (i .0) (j .0) (held binary32 1 214 (lit≤ tt)) (lit< tt) (le-trans (add-le-add (i .1) (j .1)) (lit≤ tt)) in
       elim (eq-zero-or-pos (s .Z)) [
         | inl e ↦ absurd (not-suc-le-zero (lt-val {X = unitsOf binary32 leastPower} (record { has = (refl, refl) }) (sqrt-zero (subst (λ (S : ℕ). Val binary32 (add binary32 (squareOf a) (squareOf b)) false S) e (s .val))) above))
         | inr g ↦
@@ -67,20 +67,11 @@ module _ {a b : Float} (p : Gain a) (q : Gain b) (above : T (lt leastPower (norm
             let R-ge : 2 ^ 109 ≤ r .R = le-trans (lit≤ tt) (le-of-lt (lt-val {X = unitsOf binary32 leastPower} (record { has = (refl, refl) }) (r .val) above)) in
             let pos : 0 < r .R = lt-of-lt-of-le (lit< tt) R-ge in
             record {
-              first = quotient (p .most) (r .val) pos (norm-part X (s .Z) (fits-held binary32 a (p .fit) (p .most .val)) (lt-of-le-of-lt (p .most .most) (lit< tt)) (s .least A (grid-held binary32 (X * X) (L * L)) (first A B)) r R-ge);
-              second = quotient (q .most) (r .val) pos (norm-part Y (s .Z) (fits-held binary32 b (q .fit) (q .most .val)) (lt-of-le-of-lt (q .most .most) (lit< tt)) (s .least B (grid-held binary32 (Y * Y) (L * L)) (second A B)) r R-ge);
+              first = quotient (p .most) (r .val) pos (norm-part X (s .Z) (fits-held binary32 a (p .fit) (p .most .val)) (lt-of-le-of-lt (p .most .most) (lit< tt)) (s .least A (grid-held binary32 (X * X) (L * L)) (le-add-right A B)) r R-ge);
+              second = quotient (q .most) (r .val) pos (norm-part Y (s .Z) (fits-held binary32 b (q .fit) (q .most .val)) (lt-of-le-of-lt (q .most .most) (lit< tt)) (s .least B (grid-held binary32 (Y * Y) (L * L)) (le-add-left B A)) r R-ge);
             }
       ]
     where
-      both : (A B C : ℕ) → A ≤ C → B ≤ C → A + B ≤ 2 * C
-      both A B C h k = omega arith
-
-      first : (A B : ℕ) → A ≤ A + B
-      first A B = omega arith
-
-      second : (A B : ℕ) → B ≤ A + B
-      second A B = omega arith
-
       quotient : {x l : Float} {R : ℕ} (m : Most binary32 x false (2 ^ 32 * L)) → Val binary32 l false R → 0 < R → m .X ≤ 2 * R → Mag binary32 (div binary32 x l) (2 * L)
       quotient {x} {l} {R} m v k h =
           round-mag false (m .X) R (2 * L) (div-round (m .val) v k) k (held binary32 2 149 (lit≤ tt)) (lit< tt) (le-trans (mul-le-mul-right L h) (le-of-eq (turn R L)))
@@ -127,15 +118,16 @@ spread-one {w} {d2} {g} h k m =
     ]
 
 spread-row : (w : Float) (slots : List ℕ) (row : List Float) → Most binary32 w false L → length slots ≤ 40 → Row B40 row → Row B40 (spread w slots row)
-unfolding spread spreadAt isEmpty
+unfolding spread spreadAt spreadGain isEmpty
 spread-row w slots row h few m = by slots few (lt +0 w)
   where
     some : (n : ℕ) → 1 ≤ suc n
     some n = omega arith
 
     every : (d2 : Float) → Most binary32 d2 false L → (l : List ℕ) (r : List Float) → Row B40 r → Row B40 (foldl (spreadAt w d2) r l)
-    every d2 k [] r e = e
-    every d2 k (s ∷ l) r e = every d2 k l (spreadAt w d2 r s) (each-set (λ g. Mag binary32 g B40) r s _ e (λ i. spread-one h k (each-getD (λ g. Mag binary32 g B40) r s nan i e)))
+    every d2 k l r e =
+        let P : Float → Type 0 = λ g. Mag binary32 g B40 in
+        foldl-always (Row B40) (spreadAt w d2) (λ r s e. each-set P r s _ e (λ i. spread-one h k (each-getD P r s nan i e))) l r e
 
     by : (ss : List ℕ) → length ss ≤ 40 → (b : Bool) → Row B40 (cond (b && not (isEmpty ss)) (foldl (spreadAt w (div binary32 w (count32 (length ss)))) row ss) row)
     by ss f false = m
@@ -161,26 +153,14 @@ pair-row n el p t slots ok fit g few = by (lt leastPower (normOf (t .ga) (t .gb)
         (each-set (λ v. Mag binary32 v (2 * L)) (replicate n +0) (p .a) (div binary32 (t .ga) (normOf (t .ga) (t .gb))) (zeros (2 * L) n) (λ _. o .first)) (two (o .second)))
     by false k = zeros B40 n
 
-each-first : {A : Type 0} (P : A → Type 0) (f : A → Bool) (l : List A) (d : A) → Each P l → P d → P (firstThat f l d)
-unfolding firstThat
-each-first P f [] d e h = h
-each-first P f (a ∷ l) d e h = by (f a) (each-first P f l d (e .1) h)
-  where
-    by : (b : Bool) → P (firstThat f l d) → P (cond b a (firstThat f l d))
-    by true k = e .0
-    by false k = k
-
 -- the pair that is chosen is one of them
 pub chosen-each : (P : PlanarPair → Type 0) (az : Float) (q : PlanarPair) (l : List PlanarPair) → Each P (q ∷ l) → P (chosen az (q ∷ l))
 unfolding chosen last
 chosen-each P az q l e = each-first P (contains az) (q ∷ l) (last l q) e (each-last P l q (e .0) (e .1))
-
-pub chosen-sound : (az : Float) (q : PlanarPair) (l : List PlanarPair) (slots : List ℕ) → Each (SoundPair slots) (q ∷ l) → SoundPair slots (chosen az (q ∷ l))
-chosen-sound az q l slots e = chosen-each (SoundPair slots) az q l e
 
 pub planar-row : (n : ℕ) (az el : Float) (pairs : List PlanarPair) (slots : List ℕ) → T (finite az) → T (fits binary32 az) → T (finite el) → T (fits binary32 el) → Each (SoundPair slots) pairs → length slots ≤ 40 → Row B40 (planarRow n az el pairs slots)
 unfolding planarRow isEmpty
 planar-row n az el [] slots a b c d e few = zeros B40 n
 planar-row n az el (q ∷ l) slots a b c d e few =
     let p = chosen az (q ∷ l) in
-    pair-row n el p (byLaw az p (p .law)) slots c d (pair-gains az a b p (chosen-sound az q l slots e)) few
+    pair-row n el p (byLaw az p (p .law)) slots c d (pair-gains az a b p (chosen-each (SoundPair slots) az q l e)) few

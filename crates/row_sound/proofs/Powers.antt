@@ -11,7 +11,7 @@ use lib.Ieee.Fits.{add-fits}
 use lib.Ieee.Scale.{finite}
 use Rattle.ieee.specs.Values.{+0, 1·0}
 use Rattle.ieee.specs.Order.{squareOf}
-use Rattle.ieee.specs.Root.{sqrtOf}
+use Rattle.root.specs.Root.{sqrtOf}
 use Rattle.planar_row.specs.PlanarRow.{leastPower}
 use Rattle.hull_row.specs.HullRow.{scaled}
 use Rattle.bounds.proofs.Units.{unitsOf, mul-round}
@@ -20,7 +20,7 @@ use Rattle.bounds.proofs.Size.{Mag, Most, mag-of, mag-max, mag-mul, div-most}
 use Rattle.bounds.proofs.Compare.{above-least}
 use Rattle.bounds.proofs.Root.{sqrt-val}
 use Rattle.bounds.proofs.Order.{zero-val}
-use Rattle.sound.proofs.Each.{each-imply, each-map}
+use Rattle.lists.proofs.Each.{each-imply, each-map, foldl-always}
 use Rattle.row_sound.proofs.Places.{Row, row-more}
 use Rattle.row_sound.proofs.Pairs.{L}
 
@@ -30,8 +30,7 @@ B60 = 2 ^ 60 * L
 
 -- the sum of squares is a value of 32 bits
 power-fits : (p : Float) (row : List Float) → T (fits binary32 p) → T (fits binary32 (foldl (λ q g. add binary32 q (squareOf g)) p row))
-power-fits p [] h = h
-power-fits p (g ∷ l) h = power-fits (add binary32 p (squareOf g)) l (add-fits binary32 p (squareOf g))
+power-fits p row h = foldl-always (λ q. T (fits binary32 q)) (λ q g. add binary32 q (squareOf g)) (λ q g k. add-fits binary32 q (squareOf g)) row p h
 
 -- ---- one over the root
 
@@ -57,7 +56,7 @@ inverse-root (fin s m e) fit above = finite-root (fin s m e) tt fit above
 
 -- ---- a scaled row is the row, or the row times a number from 0 to 2 ^ 21
 
-scaled-by : (P : List Float → Type 0) (row : List Float) → P row → ((x : Float) → Most binary32 x false (2 ^ 21 * L) → P (map (λ g. mul binary32 g x) row)) → P (scaled row)
+pub scaled-by : (P : List Float → Type 0) (row : List Float) → P row → ((x : Float) → Most binary32 x false (2 ^ 21 * L) → P (map (λ g. mul binary32 g x) row)) → P (scaled row)
 unfolding scaled fits
 scaled-by P row h k = by (lt leastPower power) (inverse-root power (power-fits +0 row tt))
   where

@@ -9,7 +9,7 @@ use lib.ListN.{length, replicate}
 use lib.Ieee.{Float, nan, inf, fin, binary32, fits}
 use lib.Ieee.Fits.{cond-fits}
 use lib.Ieee.Scale.{finite}
-use Rattle.lists.specs.Lists.{member}
+use Rattle.lists.specs.Lists.{member, Each}
 use Rattle.ieee.specs.Values.{+0, 1·0, isFinite}
 use Rattle.neighbours.proofs.Distinct.{pigeonhole}
 use Rattle.panner.specs.Shape.{HullShape, Shape, silent, mono, planar, hull}
@@ -17,12 +17,11 @@ use Rattle.layout.specs.Layout.{outputsOf, layoutOf}
 use Rattle.planar_row.specs.PlanarRow.{planarRow}
 use Rattle.gains.specs.Gains.{finiteOr0, rowIn, rowOf}
 use Rattle.bounds.proofs.Size.{Mag, mag-finite, val-mag}
-use Rattle.sound.specs.Sound.{Each, SoundHull, SoundNeighbours, Sound}
-use Rattle.sound.proofs.Each.{each-imply}
-use Rattle.sound.proofs.Distinct.{each-member}
+use Rattle.sound.specs.Sound.{SoundHull, SoundNeighbours, Sound}
+use Rattle.lists.proofs.Each.{each-imply, each-member, each-set}
 use Rattle.sound.proofs.Layouts.{layout-sound}
 use Rattle.row_sound.specs.RowSound.{RowFinite}
-use Rattle.row_sound.proofs.Places.{Row, zeros, each-set, row-more}
+use Rattle.row_sound.proofs.Places.{Row, zeros, row-more}
 use Rattle.row_sound.proofs.Pairs.{L}
 use Rattle.row_sound.proofs.PlanarRows.{B40, planar-row}
 use Rattle.row_sound.proofs.HullRows.{Few, hull-row}

@@ -16,27 +16,27 @@ use Rattle.panner.specs.Malformed.{usedSlots}
 use Rattle.layout.specs.Layout.{outputsOf, layoutOf, newOf}
 use Rattle.layout.proofs.Answers.{accepted-fits, accepted-read-back, never-malformed}
 use Rattle.gains.specs.Gains.{finiteOr0, rowOf, gainsOf, gainsNumber, gainsBuffer}
-use Rattle.sound.specs.Sound.{Each}
-use Rattle.sound.proofs.Each.{each-all}
+use Rattle.lists.proofs.Each.{each-all}
+use Rattle.lists.specs.Lists.{Each}
 use Rattle.sound.proofs.Distinct.{none-member}
 use Rattle.sound.proofs.Layouts.{lfe-unused}
 use Rattle.row_sound.specs.Silent.{RowLength, UnusedSilent, LfeSilent, RecordNumber, RecordRow, filledPlaces, RecordRowFinite, RecordLfeSilent}
 use Rattle.row_sound.proofs.Powers.{scaled-zero, scaled-length}
 use Rattle.row_sound.proofs.Rows.{row-finite}
-use Rattle.row_sound.proofs.Written.{row-kept}
+use Rattle.row_sound.proofs.Written.{anything, row-kept}
 
 -- ---- a row
 
 pub row-length : RowLength
 unfolding rowOf
 row-length l n az el =
-    row-kept (λ row. length row ≡ n) (λ _. Unit) (λ row i v u e. length-set row i v ∙ e) (scaled-length n) n (finiteOr0 az) (finiteOr0 el) (l .shape)
+    row-kept (λ row. length row ≡ n) (λ _. Unit) (λ _. Unit) anything (λ row i v u w e. length-set row i v ∙ e) (scaled-length n) n (finiteOr0 az) (finiteOr0 el) (l .shape)
     (each-all (λ _. Unit) (λ _. tt) (usedSlots (l .shape))) tt (length-replicate n +0)
 
 pub unused-silent : UnusedSilent
 unfolding rowOf
 unused-silent l n az el o h k =
-    row-kept (λ row. getD row o nan ≡ +0) (λ i. eqb i o ≡ false) (λ row i v u e. getD-set-other row i o v nan (λ g. eqb-false i o u (sym g)) ∙ e) (scaled-zero o) n (finiteOr0 az) (finiteOr0 el) (l .shape)
+    row-kept (λ row. getD row o nan ≡ +0) (λ i. eqb i o ≡ false) (λ _. Unit) anything (λ row i v u w e. getD-set-other row i o v nan (λ g. eqb-false i o u (sym g)) ∙ e) (scaled-zero o) n (finiteOr0 az) (finiteOr0 el) (l .shape)
     (none-member o (usedSlots (l .shape)) h) (ne-eqb n o (λ e. omega arith)) (getD-replicate n o +0 nan k)
 
 pub lfe-silent : LfeSilent

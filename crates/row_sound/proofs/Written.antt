@@ -1,56 +1,42 @@
 -- A row is written at slots of the layout only: what zeros have, and a store at such a slot and the scaling keep, every row has. Assumes nothing.
-use Prim.Native.Nat.{ℕ, zero, suc, _-_, _<_, min}
+use Prim.Native.Nat.{ℕ, _-_, _<_, min}
 use mathlib.Core.Bool.{Bool, true, false, _&&_, not, cond}
-use mathlib.Core.List.{List, [], _∷_, _++_, flatMap, foldl}
+use mathlib.Core.List.{List, [], _∷_, flatMap, foldl}
 use mathlib.Core.Option.{Option, none, some}
 use lib.Dec.{T, ltb, ltb→lt}
 use lib.ListN.{length, getD, set, replicate}
 use lib.Ieee.{Float, nan, binary32, add, div, lt}
-use Rattle.lists.specs.Lists.{range, isEmpty}
+use Rattle.lists.specs.Lists.{range, isEmpty, Each}
 use Rattle.ieee.specs.Values.{+0, 1·0}
 use Rattle.ieee.specs.Order.{maxOf, squareOf}
-use Rattle.ieee.specs.Root.{sqrtOf}
+use Rattle.root.specs.Root.{sqrtOf}
 use Rattle.vector.specs.Vector.{dirVecOf}
 use Rattle.planar.specs.declared.PlanarPair.{PlanarPair}
 use Rattle.hull.specs.Triplets.{Triplet}
 use Rattle.panner.specs.Shape.{HullShape, Shape, silent, mono, planar, hull}
 use Rattle.panner.specs.Malformed.{usedSlots}
-use Rattle.planar_row.specs.PlanarRow.{addAt, count32, leastPower, Two, byLaw, chosen, planarSpread, spreadAt, spread, pairRow, planarRow}
-use Rattle.hull_row.specs.HullRow.{maxImaginary, Aimed, bestOf, nearestPoint, nearestRow, Filling, give, filling, shared, scaled, tripletRow, rowBy, hullRow}
+use Rattle.planar_row.specs.PlanarRow.{addAt, count32, leastPower, Two, byLaw, chosen, planarSpread, spreadGain, spreadAt, spread, pairRow, planarRow}
+use Rattle.filling.specs.Filling.{maxImaginary}
+use Rattle.hull_row.specs.HullRow.{Aimed, bestOf, nearestPoint, nearestRow, Filling, give, filling, shared, scaled, tripletRow, rowBy, hullRow}
 use Rattle.gains.specs.Gains.{rowIn}
-use Rattle.sound.specs.Sound.{Each}
-use Rattle.sound.proofs.Each.{each-getD, foldl-keeps}
+use Rattle.lists.proofs.Each.{each-left, each-right, each-unflat, each-getD, each-or, foldl-keeps, foldl-always}
 use Rattle.row_sound.proofs.PlanarRows.{chosen-each}
 
--- ---- each of a joined list
+-- what every value has that a row is made of: 1, or a rounded sum, quotient or root
+pub record Made (W : Float → Type 0) : Type 0 where
+  pub one : W 1·0
+  pub sum : (x y : Float) → W (add binary32 x y)
+  pub quotient : (x y : Float) → W (div binary32 x y)
+  pub root : (x y : Float) → W (sqrtOf binary32 (add binary32 x y))
 
-module _ {A : Type 0} (P : A → Type 0) where
-  each-left : (l m : List A) → Each P (l ++ m) → Each P l
-  each-left [] m h = tt
-  each-left (a ∷ l) m h = (h .0, each-left l m (h .1))
+pub anything : Made (λ _. Unit)
+anything = record { one = tt; sum = λ x y. tt; quotient = λ x y. tt; root = λ x y. tt }
 
-  each-right : (l m : List A) → Each P (l ++ m) → Each P m
-  each-right [] m h = h
-  each-right (a ∷ l) m h = each-right l m (h .1)
-
-  -- an element, or what a place outside gives
-  each-or : (l : List A) (i : ℕ) (d : A) → Each P l → P d → P (getD l i d)
-  each-or [] i d h k = k
-  each-or (a ∷ l) zero d h k = h .0
-  each-or (a ∷ l) (suc i) d h k = each-or l i d (h .1) k
-
-each-unflat : {A B : Type 0} (P : B → Type 0) (f : A → List B) (l : List A) → Each P (flatMap f l) → Each (λ a. Each P (f a)) l
-unfolding flatMap
-each-unflat P f [] h = tt
-each-unflat P f (a ∷ l) h = (each-left P (f a) (flatMap f l) h, each-unflat P f l (each-right P (f a) (flatMap f l) h))
-
--- ---- what is kept
-
--- Q of a row, U of a slot
-module _ (Q : List Float → Type 0) (U : ℕ → Type 0) (put : (row : List Float) (i : ℕ) (v : Float) → U i → Q row → Q (set row i v)) (times : (row : List Float) → Q row → Q (scaled row)) where
+-- Q of a row, U of a slot, W of a value
+module _ (Q : List Float → Type 0) (U : ℕ → Type 0) (W : Float → Type 0) (made : Made W) (put : (row : List Float) (i : ℕ) (v : Float) → U i → W v → Q row → Q (set row i v)) (times : (row : List Float) → Q row → Q (scaled row)) where
   added : (row : List Float) (i : ℕ) (v : Float) → U i → Q row → Q (addAt row i v)
   unfolding addAt
-  added row i v u q = put row i (add binary32 (getD row i nan) v) u q
+  added row i v u q = put row i (add binary32 (getD row i nan) v) u (made .sum (getD row i nan) v) q
 
   either : (b : Bool) (r s : List Float) → Q r → Q s → Q (cond b r s)
   either true r s h k = h
@@ -62,7 +48,7 @@ module _ (Q : List Float → Type 0) (U : ℕ → Type 0) (put : (row : List Flo
   unfolding spread
   spread-kept w slots row u q =
       let d2 = div binary32 w (count32 (length slots)) in
-      either (lt +0 w && not (isEmpty slots)) (foldl (spreadAt w d2) row slots) row (foldl-keeps Q U (spreadAt w d2) (λ r s h k. unfold spreadAt in put r s _ h k) slots u row q) q
+      either (lt +0 w && not (isEmpty slots)) (foldl (spreadAt w d2) row slots) row (foldl-keeps Q U (spreadAt w d2) (λ r s h k. unfold spreadAt spreadGain in put r s _ h (made .root _ _) k) slots u row q) q
 
   pair-kept : (n : ℕ) (el : Float) (p : PlanarPair) (g : Two) (slots : List ℕ) → U (p .a) → U (p .b) → Each U slots → Q (replicate n +0) → Q (pairRow n el p g slots)
   unfolding pairRow
@@ -71,7 +57,7 @@ module _ (Q : List Float → Type 0) (U : ℕ → Type 0) (put : (row : List Flo
       let first = set (replicate n +0) (p .a) (div binary32 (g .ga) norm) in
       let row = addAt first (p .b) (div binary32 (g .gb) norm) in
       either (lt leastPower norm) (spread (planarSpread el) slots row) (replicate n +0)
-      (spread-kept (planarSpread el) slots row u (added first (p .b) (div binary32 (g .gb) norm) b (put (replicate n +0) (p .a) (div binary32 (g .ga) norm) a z))) z
+      (spread-kept (planarSpread el) slots row u (added first (p .b) (div binary32 (g .gb) norm) b (put (replicate n +0) (p .a) (div binary32 (g .ga) norm) a (made .quotient (g .ga) norm) z))) z
 
   planar-kept : (n : ℕ) (az el : Float) (pairs : List PlanarPair) (slots : List ℕ) → Each (λ p. Each U (p .a ∷ p .b ∷ [])) pairs → Each U slots → Q (replicate n +0) → Q (planarRow n az el pairs slots)
   unfolding planarRow isEmpty
@@ -106,27 +92,23 @@ module _ (Q : List Float → Type 0) (U : ℕ → Type 0) (put : (row : List Flo
         either (lt +0 g && not (isEmpty ns)) (foldl (λ r o. addAt r o w) row ns) row
         (foldl-keeps Q U (λ r o. addAt r o w) (λ r o u m. added r o w u m) ns (each-or (Each U) (h .imag) k [] nbrs tt) row q) q
 
-    shares-kept : (imag : List Float) (ks : List ℕ) (row : List Float) → Q row → Q (foldl (shared h imag) row ks)
-    shares-kept imag [] row q = q
-    shares-kept imag (k ∷ ks) row q = shares-kept imag ks (shared h imag row k) (shared-kept imag row k q)
-
     hull-kept : (n : ℕ) (az el : Float) → U n → Q (replicate n +0) → Q (hullRow n az el h)
     unfolding hullRow nearestRow tripletRow
     hull-kept n az el u z = by (bestOf (dirVecOf az el) (h .tris))
       where
         by : (o : Option Aimed) → Q (rowBy n (dirVecOf az el) h o)
-        by none = put (replicate n +0) (getD (h .out) (nearestPoint (dirVecOf az el) (h .dirs)) n) 1·0 (each-or U (h .out) (nearestPoint (dirVecOf az el) (h .dirs)) n real u) z
+        by none = put (replicate n +0) (getD (h .out) (nearestPoint (dirVecOf az el) (h .dirs)) n) 1·0 (each-or U (h .out) (nearestPoint (dirVecOf az el) (h .dirs)) n real u) (made .one) z
         by (some m) =
             let f = filling n h (m .triplet) (m .gains) in
             let ks = range (min (length (h .imag)) maxImaginary) in
-            times (foldl (shared h (f .imag)) (f .row) ks) (shares-kept (f .imag) ks (f .row) (filling-kept n (m .triplet) (m .gains) z))
+            times (foldl (shared h (f .imag)) (f .row) ks) (foldl-always Q (shared h (f .imag)) (λ row k q. shared-kept (f .imag) row k q) ks (f .row) (filling-kept n (m .triplet) (m .gains) z))
 
   -- ---- by the kind; n, where the hull's nearest point has no slot, is none of the places
 
   pub row-kept : (n : ℕ) (az el : Float) (s : Shape) → Each U (usedSlots s) → U n → Q (replicate n +0) → Q (rowIn n az el s)
   unfolding rowIn usedSlots
   row-kept n az el silent e u z = z
-  row-kept n az el (mono i) e u z = put (replicate n +0) i 1·0 (e .0) z
+  row-kept n az el (mono i) e u z = put (replicate n +0) i 1·0 (e .0) (made .one) z
   row-kept n az el (planar ps ss) e u z =
       let pairs = flatMap (λ p. p .a ∷ p .b ∷ []) ps in
       planar-kept n az el ps ss (each-unflat U (λ p. p .a ∷ p .b ∷ []) ps (each-left U pairs ss e)) (each-right U pairs ss e) z

@@ -7,13 +7,12 @@ use mathlib.Core.List.{List}
 use lib.Dec.{T}
 use lib.ListN.{length, getD, take}
 use lib.Ieee.{Float, nan, binary32, fits}
-use Rattle.lists.specs.Lists.{member}
+use Rattle.lists.specs.Lists.{member, Each}
 use Rattle.ieee.specs.Values.{+0, isFinite}
 use Rattle.panner.specs.Shape.{Layout}
 use Rattle.panner.specs.Malformed.{usedSlots}
 use Rattle.layout.specs.Layout.{outputsOf, layoutOf, newOf}
 use Rattle.gains.specs.Gains.{rowOf, gainsOf, gainsNumber, gainsBuffer}
-use Rattle.sound.specs.Sound.{Each}
 
 -- ---- a row
 

@@ -1,17 +1,18 @@
 -- The answer of a call, by its number: a refused one leaves the session, an accepted one gives what the definition makes of it. Assumes nothing.
-use Prim.Native.Nat.{ℕ, _-_, _*_, _≤_, _<_}
-use mathlib.Core.Path.{_≡_, sym, ap, _∙_}
+use Prim.Native.Nat.{ℕ, _+_, _-_, _*_, _≤_, _<_}
+use mathlib.Core.Path.{_≡_, refl, sym, ap, _∙_}
 use mathlib.Core.Bool.{Bool, cond}
-use mathlib.Core.List.{List, _++_}
+use mathlib.Core.List.{List, [], _∷_, _++_}
 use native.Mathlib.Omega.{arith}
 use borrow.Author.Tests.{le-leb, lt-leb, eq-eqb, ne-eqb}
 use lib.Ieee.{Float}
-use lib.ListN.{take, drop, set, replicate}
+use lib.ListN.{take, drop, replicate}
 use lib.Seq.{sets}
 use Rattle.ieee.specs.Values.{+0}
+use Rattle.gains.specs.Gains.{finiteOr0}
 use Rattle.history.specs.Calls.{Call, place, takeBack, settle}
 use Rattle.history.specs.History.{depth}
-use Rattle.session.specs.Session.{standingCount, numberOf, at, restood, placed, takenBack, settled, accepted, after}
+use Rattle.session.specs.Session.{standingCount, numberOf, at, stood, restood, placed, takenBack, settled, accepted, after}
 use Rattle.session.specs.Answers.{answerOf}
 use Rattle.session.specs.declared.Session.{Session}
 use Rattle.session.specs.declared.Answer.{Answer}
@@ -73,28 +74,36 @@ module _ (s : Session) (i : ℕ) where
     unfolding accepted
     settle-done e = accepted-as s (settle i) z e
 
--- what settle leaves, by whether a direction stands
-pub settled-none : (s : Session) (i : ℕ) → standingCount s i ≡ 0 → settled s i ≡ s
+-- ---- what an accepted call makes of the session, by the standing directions l that it stored
+
+-- The numbers are a variable, so that nothing unfolds them
+restood-as : (s : Session) (i n j k : ℕ) (numbers : List Float) {l : List Float} {t : Session} → k ≡ at i j → l ≡ sets (s .standing) k numbers
+    → t ≡ stood s i n l → t ≡ restood s i n j numbers
+unfolding restood
+restood-as s i n j k numbers p e f = f ∙ ap (stood s i n) (e ∙ ap (λ (k : ℕ). sets (s .standing) k numbers) p)
+
+pub placed-as : (s : Session) (i : ℕ) (az el : Float) {x y : Float} {l : List Float} {t : Session} → x ≡ finiteOr0 az → y ≡ finiteOr0 el
+    → l ≡ sets (s .standing) (at i (standingCount s i)) (x ∷ y ∷ []) → t ≡ stood s i (standingCount s i + 1) l → t ≡ placed s i az el
+unfolding placed
+placed-as s i az el p q e f = restood-as s i (standingCount s i + 1) (standingCount s i) _ _ refl (e ∙ rw (p, q)) f
+
+pub taken-as : (s : Session) (i : ℕ) {l : List Float} {t : Session} → l ≡ sets (s .standing) (at i (standingCount s i - 1)) (+0 ∷ +0 ∷ [])
+    → t ≡ stood s i (standingCount s i - 1) l → t ≡ takenBack s i
+unfolding takenBack
+taken-as s i e f = restood-as s i (standingCount s i - 1) (standingCount s i - 1) _ _ refl e f
+
+-- settle, by whether a direction stands
+pub settled-none : (s : Session) (i : ℕ) → standingCount s i ≡ 0 → s ≡ settled s i
 unfolding settled
 settled-none s i h = rw (eq-eqb (standingCount s i) 0 h)
 
-pub settled-some : (s : Session) (i : ℕ) → (standingCount s i ≡ 0 → ⊥)
-    → settled s i ≡ restood s i 1 0 (take 2 (drop (at i (standingCount s i - 1)) (s .standing)) ++ replicate 30 +0)
+settled-some : (s : Session) (i : ℕ) → (standingCount s i ≡ 0 → ⊥)
+    → restood s i 1 0 (take 2 (drop (at i (standingCount s i - 1)) (s .standing)) ++ replicate 30 +0) ≡ settled s i
 unfolding settled
 settled-some s i h = rw (ne-eqb (standingCount s i) 0 h)
 
--- another count, and a run of numbers stored. The numbers are a variable, so that nothing unfolds them
-restood-run : (s : Session) (i n j k : ℕ) (numbers : List Float) {r : List Float} → k ≡ at i j → r ≡ sets (s .standing) k numbers
-    → _≡_ {A = Session} (record { panner = s .panner; sources = s .sources; counts = set (s .counts) i n; standing = r; starts = s .starts }) (restood s i n j numbers)
-unfolding restood
-restood-run s i n j k numbers p q =
-    ap (λ (r : List Float). record { panner = s .panner; sources = s .sources; counts = set (s .counts) i n; standing = r; starts = s .starts })
-    (q ∙ ap (λ (k : ℕ). sets (s .standing) k numbers) p)
-
-pub settled-done : (s : Session) (i n : ℕ) {r : List Float} → n ≡ standingCount s i → 0 < n
-    → r ≡ sets (s .standing) (i * 32) (take 2 (drop (at i (n - 1)) (s .standing)) ++ replicate 30 +0)
-    → _≡_ {A = Session} (record { panner = s .panner; sources = s .sources; counts = set (s .counts) i 1; standing = r; starts = s .starts }) (settled s i)
-settled-done s i n e h q =
-    restood-run s i 1 0 (i * 32) (take 2 (drop (at i (n - 1)) (s .standing)) ++ replicate 30 +0) (omega arith) q
-    ∙ ap (λ (m : ℕ). restood s i 1 0 (take 2 (drop (at i (m - 1)) (s .standing)) ++ replicate 30 +0)) e
-    ∙ sym (settled-some s i (λ z. omega arith))
+pub settled-as : (s : Session) (i : ℕ) {l : List Float} {t : Session} → (standingCount s i ≡ 0 → ⊥)
+    → l ≡ sets (s .standing) (i * 32) (take 2 (drop (at i (standingCount s i - 1)) (s .standing)) ++ replicate 30 +0)
+    → t ≡ stood s i 1 l → t ≡ settled s i
+settled-as s i h e f =
+    restood-as s i 1 0 (i * 32) (take 2 (drop (at i (standingCount s i - 1)) (s .standing)) ++ replicate 30 +0) (omega arith) e f ∙ settled-some s i h

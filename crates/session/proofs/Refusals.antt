@@ -1,16 +1,16 @@
 -- What the numbers of the calls tell: a session that is not malformed has its counts in range, and a call on one source passes what all of them share. Assumes nothing.
 use Prim.Native.Nat.{ℕ, zero, suc, _≤_, _<_}
-use mathlib.Core.Path.{_≡_, refl, sym, ap, _∙_}
+use mathlib.Core.Path.{_≡_, refl, sym, ap, ap₂, _∙_}
 use mathlib.Core.Bool.{Bool, true, false, _||_, cond}
 use mathlib.Core.List.{List, [], _∷_}
 use native.Mathlib.Omega.{arith}
-use borrow.Author.Tests.{ltb-false, leb-false, le-leb, lt-leb}
+use borrow.Author.Tests.{ltb-false, leb-false, le-leb, lt-leb, le-ltb}
 use lib.Dec.{eqb, ltb, leb}
 use lib.Ieee.{Float}
 use lib.ListN.{getD}
 use Rattle.lists.specs.Lists.{any}
 use Rattle.panner.specs.Malformed.{malformedOf}
-use Rattle.panner.proofs.Bounds.{neither}
+use Rattle.lists.proofs.Tests.{neither}
 use Rattle.history.specs.Calls.{place, takeBack, settle}
 use Rattle.history.specs.History.{depth}
 use Rattle.session.specs.Session.{malformedSession, standingCount, numberOf}
@@ -31,6 +31,10 @@ formed s e =
     let q = neither (malformedOf (s .panner) || ltb (s .sources) 1) _ (p .0) in
     let r = neither (malformedOf (s .panner)) _ (q .0) in
     record { panner = r .0; some = ltb-false _ _ (r .1); few = ltb-false _ _ (q .1); counts = p .1 }
+
+pub formed-is : (s : Session) → Formed s → malformedSession s ≡ false
+unfolding malformedSession
+formed-is s f = ap₂ _||_ (ap₂ _||_ (ap₂ _||_ (f .panner) (le-ltb (s .sources) 1 (f .some))) (le-ltb 8 (s .sources) (f .few))) (f .counts)
 
 pub none-at : (b : ℕ) (l : List ℕ) (i : ℕ) → any (λ n. ltb b n) l ≡ false → getD l i 0 ≤ b
 unfolding any
@@ -83,7 +87,7 @@ module _ (s : Session) (i : ℕ) where
     unfolding numberOf
     take-number = shared-passed (malformedSession s) (leb (s .sources) i) _ z .2
 
-    pub passed-formed : malformedSession s ≡ false
+    passed-formed : malformedSession s ≡ false
     unfolding numberOf
     passed-formed = shared-passed (malformedSession s) (leb (s .sources) i) 0 z .0
 
@@ -91,11 +95,15 @@ module _ (s : Session) (i : ℕ) where
     unfolding numberOf
     passed-source = leb-false (s .sources) i (shared-passed (malformedSession s) (leb (s .sources) i) 0 z .1)
 
-    pub source-low : i < 8
-    source-low =
-        let f = formed s passed-formed in
-        let h = passed-source in
-        omega arith
+-- what a call on one source has shown once the shared refusals are passed
+pub record Passed (s : Session) (i : ℕ) : Type 0 where
+  pub number : numberOf s (settle i) ≡ 0
+  pub low : i < 8
+  pub few : standingCount s i ≤ depth
 
-    pub count-low : standingCount s i ≤ depth
-    count-low = none-at depth (s .counts) i (formed s passed-formed .counts)
+pub passed : (s : Session) (i : ℕ) {why : ℕ} → why ≡ numberOf s (settle i) → why ≡ 0 → Passed s i
+passed s i e z =
+    let n : numberOf s (settle i) ≡ 0 = sym e ∙ z in
+    let f = formed s (passed-formed s i n) in
+    let h = passed-source s i n in
+    record { number = n; low = omega arith; few = none-at depth (s .counts) i (f .counts) }

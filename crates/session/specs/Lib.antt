@@ -1,4 +1,3 @@
-pub mod Open
 pub mod Session
 pub mod Answers
 pub mod Meaning

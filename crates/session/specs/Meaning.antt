@@ -1,24 +1,10 @@
--- Document 01, "Returned numbers", the paragraph on 11: which sessions are refused with it. Assumes nothing.
-use Prim.Native.Nat.{ℕ}
+-- Document 01, "Returned numbers", the paragraph on 11: no call makes a session that is refused with it. Assumes nothing.
 use mathlib.Core.Path.{_≡_}
 use mathlib.Core.Bool.{false}
-use mathlib.Core.List.{List}
-use lib.Ieee.{Float}
 use Rattle.history.specs.Calls.{Call}
-use Rattle.session.specs.Open.{noSession, openOf}
-use Rattle.session.specs.Session.{malformedSession, numberOf, after}
+use Rattle.session.specs.Session.{malformedSession, after}
 use Rattle.session.specs.declared.Session.{Session}
 
--- what stands beside a refused open, every call refuses with 11
-abbrev pub NoSessionRefused : Type 0
-NoSessionRefused = (c : Call) → numberOf noSession c ≡ 11
-
--- an accepted open gives a session that is not malformed
-abbrev pub OpenedFormed : Type 0
-OpenedFormed =
-    (positions : List Float) (lfe : List ℕ) (sources : ℕ) → openOf positions lfe sources .number ≡ 0
-    → malformedSession (openOf positions lfe sources .session) ≡ false
-
--- and every call leaves one that is not malformed so
+-- every call on a session that is not malformed leaves one that is not malformed
 abbrev pub CallsKeepFormed : Type 0
 CallsKeepFormed = (s : Session) (c : Call) → malformedSession s ≡ false → malformedSession (after s c) ≡ false

@@ -46,16 +46,13 @@ numberOf s (render L samples outputs) =
 abbrev pub at : ℕ → ℕ → ℕ
 at i j = i * (depth * 2) + j * 2
 
--- another count for source i, and other numbers from its direction j on
+-- another count for source i, and other standing directions
+abbrev pub stood : Session → ℕ → ℕ → List Float → Session
+stood s i n l = record { panner = s .panner; sources = s .sources; counts = set (s .counts) i n; standing = l; starts = s .starts }
+
+-- the same, with other numbers from its direction j on
 unfoldable pub restood : Session → ℕ → ℕ → ℕ → List Float → Session
-restood s i n j numbers =
-    record {
-      panner = s .panner;
-      sources = s .sources;
-      counts = set (s .counts) i n;
-      standing = sets (s .standing) (at i j) numbers;
-      starts = s .starts;
-    }
+restood s i n j numbers = stood s i n (sets (s .standing) (at i j) numbers)
 
 -- appends a direction
 unfoldable pub placed : Session → ℕ → Float → Float → Session

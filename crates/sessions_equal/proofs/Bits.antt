@@ -8,20 +8,20 @@ use lib.Dec.{T, eqb}
 use lib.ListN.{length, replicate}
 use lib.Ieee.{Float, nan, inf, fin, binary32, fits, isNan, ofBits, toBits}
 use lib.Ieee.Bits.{ofBits-toBits}
-use Rattle.lists.specs.Lists.{butLast, change}
+use Rattle.lists.specs.Lists.{Each}
 use Rattle.ieee.specs.Values.{+0, isFinite}
 use Rattle.panner.specs.declared.VbapPanner.{VbapPanner}
 use Rattle.panner.specs.Shape.{Layout}
 use Rattle.layout.specs.Layout.{layoutOf, pannerOf}
 use Rattle.gains.specs.Gains.{finiteOr0, rowOf}
-use Rattle.sound.specs.Sound.{Each, Number}
-use Rattle.sound.proofs.Each.{each-append, each-replicate, each-drop, each-imply, each-both, each-flatMap, foldl-keeps}
+use Rattle.sound.specs.Sound.{Number}
+use Rattle.lists.proofs.Each.{each-append, each-replicate, each-drop, each-imply, each-both, each-flatMap, foldl-keeps, each-change, each-butLast, each-map}
 use Rattle.sound.proofs.Layouts.{panner-no-nan}
 use Rattle.row_sound.proofs.Rows.{or-fits, row-finite}
 use Rattle.history.specs.Calls.{Call, place, takeBack, settle, render}
 use Rattle.history.specs.History.{Direction, Past, beginning, refusal, onlyLast, lastRow, rerowed, made, step, history}
 use Rattle.session.specs.declared.Session.{Session}
-use Rattle.session.specs.Open.{openOf}
+use Rattle.session_open.specs.Open.{openOf}
 use Rattle.session.specs.Session.{afterAll}
 use Rattle.sessions_equal.specs.Bits.{Fits32, CallFits, NeverNan, SameBits, Demand3Bits}
 use Rattle.sessions_equal.proofs.Slots.{slots, padTo}
@@ -63,22 +63,6 @@ pub record HeldPast (p : Past) : Type 0 where
   pub standing : Each HeldDirection (p .standing)
   pub row : Each Finite32 (p .row)
 
-each-change : {A : Type 0} (P : A → Type 0) (i : ℕ) (f : A → A) → ((a : A) → P a → P (f a)) → (l : List A) → Each P l → Each P (change i f l)
-unfolding change
-each-change P i f k [] h = tt
-each-change P zero f k (a ∷ l) h = (k a (h .0), h .1)
-each-change P (suc i) f k (a ∷ l) h = (h .0, each-change P i f k l (h .1))
-
-each-butLast : {A : Type 0} (P : A → Type 0) (l : List A) → Each P l → Each P (butLast l)
-unfolding butLast
-each-butLast P [] h = tt
-each-butLast P (a ∷ []) h = tt
-each-butLast P (a ∷ (b ∷ l)) h = (h .0, each-butLast P (b ∷ l) (h .1))
-
-each-mapped : {A B : Type 0} (P : A → Type 0) (Q : B → Type 0) (f : A → B) → ((a : A) → P a → Q (f a)) → (l : List A) → Each P l → Each Q (map f l)
-each-mapped P Q f k [] h = tt
-each-mapped P Q f k (a ∷ l) h = (k a (h .0), each-mapped P Q f k l (h .1))
-
 module _ (positions : List Float) (lfe : List ℕ) (fit : Each Fits32 positions) (narrow : layoutOf positions lfe .outputs ≤ 40) where
   abbrev l : Layout
   l = layoutOf positions lfe
@@ -106,7 +90,8 @@ module _ (positions : List Float) (lfe : List ℕ) (fit : Each Fits32 positions)
   made-held ps (settle i) f h =
       each-change HeldPast i _ (λ p k. record { standing = each-drop HeldDirection (length (p .standing) - 1) (p .standing) (k .standing); row = k .row }) ps h
   made-held ps (render L samples outputs) f h =
-      each-mapped HeldPast HeldPast (rerowed l) (λ p k. record { standing = k .standing; row = lastRow-held (p .standing) (k .standing) }) ps h
+      each-map HeldPast (rerowed l) ps
+      (each-imply HeldPast (λ p. HeldPast (rerowed l p)) (λ p k. record { standing = k .standing; row = lastRow-held (p .standing) (k .standing) }) ps h)
 
   step-held : (ps : List Past) (c : Call) → CallFits c → Each HeldPast ps → Each HeldPast (step l ps c)
   unfolding step

@@ -18,7 +18,7 @@ use Rattle.panner.specs.Malformed.{malformedOf}
 use Rattle.history.specs.Calls.{Call, place, takeBack, settle, render}
 use Rattle.history.specs.History.{Past, beginning, depth, stand, refusal}
 use Rattle.session.specs.declared.Session.{Session}
-use Rattle.session.specs.Open.{fresh}
+use Rattle.session_open.specs.Open.{fresh}
 use Rattle.session.specs.Session.{malformedSession, numberOf, restood, startRow}
 use Rattle.sessions_equal.specs.Demand3.{Alike}
 use Rattle.sessions_equal.proofs.Rows.{rows-length, rows-sets, rows-getD, rows-same, rows-part, rows-replicate, map-set, getD-pad, all-set}

@@ -1,4 +1,3 @@
-pub mod Lengths
 pub mod Rows
 pub mod Slots
 pub mod Encode

@@ -1,12 +1,17 @@
 -- A list in rows of one width: what a store, a read, a part and an equation of the whole say of the rows, each by the list of rows. Assumes nothing.
 use Prim.Native.Nat.{ℕ, zero, suc, _+_, _*_, _≤_, _<_}
 use mathlib.Core.Path.{_≡_, refl, sym, ap, _∙_}
-use mathlib.Core.List.{List, [], _∷_, _++_, map, flatMap}
+use mathlib.Core.List.{List, [], _∷_, _++_, append-nil, map, flatMap}
 use native.Mathlib.Nat.{suc-add, add-suc, add-zero, zero-add, zero-mul, suc-mul, le-of-suc-le-suc, not-suc-le-zero, suc-inj}
 use native.Mathlib.Omega.{arith}
-use lib.ListN.{length, getD, set, take, drop, replicate, length-set, length-append, replicate-append-replicate, List·getD-append}
-use lib.Seq.{sets, set-append-left, getD-append-add, drop-cons, take-at}
+use lib.ListN.{length, getD, set, replicate, length-set, replicate-append-replicate}
+use lib.Seq.{sets, set-append-left}
+use borrow.Author.Tests.{eq-eqb}
+use lib.Dec.{eqb}
 use Rattle.lists.specs.Lists.{from, range, part}
+use Rattle.lists.proofs.Parts.{getD-part, part-row}
+use Rattle.lists.proofs.Tests.{every-always}
+use Rattle.lists.proofs.Each.{each-all, length-rows}
 
 module _ {A : Type 0} where
   set-append-right : (xs ys : List A) (k : ℕ) (a : A) → set (xs ++ ys) (length xs + k) a ≡ xs ++ set ys k a
@@ -44,14 +49,6 @@ module _ {A : Type 0} where
       let t : xs ≡ zs = r .0 in
       (cc, r .1)
 
-  -- two elements in a row, as two reads
-  pub take-two : (l : List A) (k : ℕ) (d : A) → k + 2 ≤ length l → take 2 (drop k l) ≡ getD l k d ∷ getD l (k + 1) d ∷ []
-  take-two l k d h =
-      let e : suc k ≡ k + 1 = omega arith in
-      let b : drop (k + 1) l ≡ getD l (k + 1) d ∷ drop (suc (k + 1)) l = drop-cons l (k + 1) d (omega arith) in
-      let a : drop k l ≡ getD l k d ∷ drop (k + 1) l = rw (← e) (drop-cons l k d (omega arith)) in
-      ap (take 2) (a ∙ ap (λ (r : List A). getD l k d ∷ r) b)
-
   -- what fills a list at its end is what a read beyond it gives
   pub getD-pad : (l : List A) (m k : ℕ) (d : A) → getD (l ++ replicate m d) k d ≡ getD l k d
   getD-pad [] zero k d = refl
@@ -73,11 +70,16 @@ module _ {A : Type 0} where
 module _ {A B : Type 0} where
   module _ (f : A → List B) (w : ℕ) (wide : (a : A) → length (f a) ≡ w) where
     pub rows-length : (l : List A) → length (flatMap f l) ≡ length l * w
-    unfolding flatMap
-    rows-length [] = sym (zero-mul w)
-    rows-length (a ∷ l) =
-        let e : suc (length l) * w ≡ w + length l * w = rw suc-mul (omega arith) in
-        rw e (omega (arith, length-append (f a) (flatMap f l), wide a, rows-length l))
+    rows-length l = length-rows w f l (each-all (λ a. length (f a) ≡ w) wide l)
+
+    -- a row is the part that stands there
+    pub rows-part : (l : List A) (d : A) (i : ℕ) → i < length l → part w (flatMap f l) i ≡ f (getD l i d)
+    rows-part l d i h =
+        ap (λ (m : List B). part w m i) (sym (append-nil (flatMap f l)))
+        ∙ part-row w f l [] i d (every-always (λ a. eqb (length (f a)) w) (λ a. eq-eqb (length (f a)) w (wide a)) l) h
+
+    pub rows-getD : (l : List A) (d : A) (i j : ℕ) (z : B) → i < length l → j < w → getD (flatMap f l) (i * w + j) z ≡ getD (f (getD l i d)) j z
+    rows-getD l d i j z h m = sym (getD-part w (flatMap f l) i j z m) ∙ ap (λ (r : List B). getD r j z) (rows-part l d i h)
 
     pub rows-sets : (l : List A) (d : A) (i j : ℕ) (a : A) (vs : List B) → i < length l → j + length vs ≤ w
         → f a ≡ sets (f (getD l i d)) j vs → flatMap f (set l i a) ≡ sets (flatMap f l) (i * w + j) vs
@@ -89,14 +91,6 @@ module _ {A B : Type 0} where
         let q : suc i * w + j ≡ length (f g) + (i * w + j) = rw (suc-mul, wide g) (omega arith) in
         rw (q, sets-append-right (f g) (flatMap f l) (i * w + j) vs, rows-sets l d i j a vs (le-of-suc-le-suc h) m e)
 
-    pub rows-getD : (l : List A) (d : A) (i j : ℕ) (z : B) → i < length l → j < w → getD (flatMap f l) (i * w + j) z ≡ getD (f (getD l i d)) j z
-    unfolding flatMap
-    rows-getD [] d i j z h m = absurd (not-suc-le-zero h)
-    rows-getD (g ∷ l) d zero j z h m = rw (zero-mul w, zero-add j) (List·getD-append (f g) (flatMap f l) z j (rw (wide g) m))
-    rows-getD (g ∷ l) d (suc i) j z h m =
-        let q : suc i * w + j ≡ length (f g) + (i * w + j) = rw (suc-mul, wide g) (omega arith) in
-        rw (q, getD-append-add (f g) (flatMap f l) (i * w + j) z) (rows-getD l d i j z (le-of-suc-le-suc h) m)
-
     pub rows-same : (l m : List A) (d : A) → length l ≡ length m → flatMap f l ≡ flatMap f m → (i : ℕ) → i < length l → f (getD l i d) ≡ f (getD m i d)
     unfolding flatMap
     rows-same [] m d e p i h = absurd (not-suc-le-zero h)
@@ -104,19 +98,6 @@ module _ {A B : Type 0} where
     rows-same (a ∷ l) (b ∷ m) d e p zero h = append-same (f a) (flatMap f l) (f b) (flatMap f m) (wide a ∙ sym (wide b)) p .0
     rows-same (a ∷ l) (b ∷ m) d e p (suc i) h =
         rows-same l m d (suc-inj e) (append-same (f a) (flatMap f l) (f b) (flatMap f m) (wide a ∙ sym (wide b)) p .1) i (le-of-suc-le-suc h)
-
-    drop-more : (xs ys : List B) (k : ℕ) → drop (length xs + k) (xs ++ ys) ≡ drop k ys
-    drop-more [] ys k = rw (zero-add k)
-    drop-more (x ∷ xs) ys k = rw suc-add (drop-more xs ys k)
-
-    -- a row is the part that stands there
-    pub rows-part : (l : List A) (d : A) (i : ℕ) → i < length l → part w (flatMap f l) i ≡ f (getD l i d)
-    unfolding flatMap part
-    rows-part [] d i h = absurd (not-suc-le-zero h)
-    rows-part (a ∷ l) d zero h = rw (zero-mul w) (take-at (f a) (flatMap f l) w (wide a))
-    rows-part (a ∷ l) d (suc i) h =
-        let q : suc i * w ≡ length (f a) + i * w = rw (suc-mul, wide a) (omega arith) in
-        rw (q, drop-more (f a) (flatMap f l) (i * w)) (rows-part l d i (le-of-suc-le-suc h))
 
   -- rows by number are rows by element
   from-rows : (g : ℕ → List B) (f : A → List B) (l : List A) (d : A) (s : ℕ) → ((i : ℕ) → i < length l → g (s + i) ≡ f (getD l i d))

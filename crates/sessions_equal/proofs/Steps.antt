@@ -1,5 +1,5 @@
 -- Each call makes of the session that a history stands for the session that its next history stands for: both make the same tests, and the same change at one source. Assumes nothing.
-use Prim.Native.Nat.{ℕ, zero, suc, _+_, _-_, _*_, _≤_, _<_}
+use Prim.Native.Nat.{ℕ, suc, _+_, _-_, _*_, _≤_, _<_}
 use mathlib.Core.Path.{_≡_, refl, sym, ap, _∙_}
 use mathlib.Core.Bool.{Bool, true, false, cond}
 use mathlib.Core.List.{List, [], _∷_, _++_, map, flatMap}
@@ -7,11 +7,12 @@ use native.Mathlib.Nat.{add-assoc, not-suc-le-zero}
 use native.Mathlib.Omega.{arith}
 use borrow.Author.Tests.{ltb-true, ltb-false, leb-false, eqb-true, eqb-false, ne-eqb}
 use lib.Dec.{eqb, ltb, leb}
-use lib.ListN.{length, getD, set, take, drop, replicate, length-append, length-replicate, length-map, List·getD-map, drop-of-length-le}
+use lib.ListN.{length, getD, set, take, drop, replicate, length-append, length-replicate, length-map, List·getD-map, List·getD-eq-default, drop-of-length-le}
 use lib.Seq.{set-getD, drop-cons}
 use lib.Ieee.{Float, nan}
 use Rattle.lists.specs.Lists.{butLast}
 use Rattle.lists.proofs.Ends.{change-set}
+use Rattle.lists.proofs.Parts.{take-two}
 use Rattle.ieee.specs.Values.{+0}
 use Rattle.panner.specs.declared.VbapPanner.{VbapPanner}
 use Rattle.panner.specs.Shape.{Layout}
@@ -20,8 +21,8 @@ use Rattle.history.specs.Calls.{Call, place, takeBack, settle, render}
 use Rattle.history.specs.History.{Direction, Past, quiet, beginning, depth, stand, refusal, relisted, onlyLast, lastRow, rerowed, made, step}
 use Rattle.session.specs.declared.Session.{Session}
 use Rattle.session.specs.Session.{standingCount, restood, placed, takenBack, settled, target, newStart, rendered, accepted, after}
-use Rattle.sessions_equal.proofs.Lengths.{rowOf-length}
-use Rattle.sessions_equal.proofs.Rows.{take-two, getD-pad, range-rows}
+use Rattle.row_sound.proofs.Silent.{row-length}
+use Rattle.sessions_equal.proofs.Rows.{getD-pad, range-rows}
 use Rattle.sessions_equal.proofs.Slots.{slots-push, slots-pop, slots-settle, slots-at, butLast-length, padTo-store}
 use Rattle.sessions_equal.proofs.Encode.{Setting, Good, count, dirs, start, full, encode, full-length, count-at, stand-at, dir-at, standing-length, start-at, numbers-agree, good-set, restood-encode}
 
@@ -30,7 +31,7 @@ use Rattle.sessions_equal.proofs.Encode.{Setting, Good, count, dirs, st
 pub lastRow-length : (l : Layout) (ds : List Direction) → length (lastRow l ds) ≡ l .outputs
 unfolding lastRow
 lastRow-length l [] = length-replicate (l .outputs) +0
-lastRow-length l (d ∷ []) = rowOf-length l (l .outputs) (d .azimuth) (d .elevation)
+lastRow-length l (d ∷ []) = row-length l (l .outputs) (d .azimuth) (d .elevation)
 lastRow-length l (d ∷ (e ∷ ds)) = lastRow-length l (e ∷ ds)
 
 lastRow-none : (l : Layout) (ds : List Direction) → length ds ≡ 0 → lastRow l ds ≡ quiet l
@@ -198,11 +199,6 @@ module _ (v : VbapPanner) (l : Layout) (n : ℕ) (s : Setting v l n) (ps : List 
   counts-rerowed [] rs = refl
   counts-rerowed (q ∷ qs) rs = ap (λ (x : List ℕ). count q ∷ x) (counts-rerowed qs rs)
 
-  getD-beyond : {A : Type 0} (xs : List A) (i : ℕ) (d : A) → length xs ≤ i → getD xs i d ≡ d
-  getD-beyond [] i d h = refl
-  getD-beyond (x ∷ xs) zero d h = absurd (not-suc-le-zero h)
-  getD-beyond (x ∷ xs) (suc i) d h = getD-beyond xs i d (omega arith)
-
   rerowed-at : (i : ℕ) → getD (full l n (map (rerowed l) ps)) i (beginning l) ≡ rerowed l (getD ps i (beginning l))
   unfolding lastRow
   rerowed-at i = getD-pad (map (rerowed l) ps) (8 - n) i (beginning l) ∙ List·getD-map (rerowed l) ps i (beginning l)
@@ -219,7 +215,7 @@ module _ (v : VbapPanner) (l : Layout) (n : ℕ) (s : Setting v l n) (ps : List 
       (padTo-store 40 (l .outputs) (getD ps i (beginning l) .row) (lastRow l ds) (g .even i) (lastRow-length l ds) (s .narrow))
   new-start i h false e =
       let m = g .many in
-      let out : getD ps i (beginning l) ≡ beginning l = getD-beyond ps i (beginning l) (omega (arith, ltb-false i n e)) in
+      let out : getD ps i (beginning l) ≡ beginning l = List·getD-eq-default ps (beginning l) (omega (arith, ltb-false i n e)) in
       rw (e, start-at v l n s ps g i h, rerowed-at i, out) beginning-starts
 
   render-step : Good l n (map (rerowed l) ps) × (rendered (encode v l n ps) ≡ encode v l n (map (rerowed l) ps))

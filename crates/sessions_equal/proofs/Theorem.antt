@@ -4,7 +4,7 @@ use mathlib.Core.Path.{_≡_, refl, sym, ap, _∙_}
 use mathlib.Core.Bool.{Bool, true, false, _||_, not, cond}
 use mathlib.Core.List.{List, [], _∷_, foldl}
 use native.Mathlib.Omega.{arith}
-use borrow.Author.Tests.{ltb-false, eqb-true}
+use borrow.Author.Tests.{ltb-false}
 use lib.Dec.{eqb, ltb}
 use lib.ListN.{length, replicate}
 use lib.Seq.{ext-getD}
@@ -15,12 +15,12 @@ use Rattle.panner.specs.Panner.{laid}
 use Rattle.panner.proofs.Reading.{read-back}
 use Rattle.panner.proofs.WellFormed.{well-formed}
 use Rattle.layout.specs.Layout.{outputsOf, active, layoutOf, tooManyTriplets, newRefusal, pannerOf, newOf}
-use Rattle.layout.proofs.Answers.{accepted-fits}
+use Rattle.layout.proofs.Answers.{answer-number, accepted-fits}
 use Rattle.history.specs.Calls.{Call}
 use Rattle.history.specs.History.{Past, beginning, step, history, past}
 use Rattle.session.specs.declared.Session.{Session}
-use Rattle.session.specs.declared.Opened.{Opened}
-use Rattle.session.specs.Open.{fresh, openRefusal, noSession, openOf}
+use Rattle.session_open.specs.declared.Opened.{Opened}
+use Rattle.session_open.specs.Open.{fresh, openRefusal, noSession, openOf}
 use Rattle.session.specs.Session.{malformedSession, numberOf, after, afterAll}
 use Rattle.sessions_equal.specs.Demand3.{Demand3}
 use Rattle.sessions_equal.specs.Numbers.{NeverMalformed, NumbersAgree}
@@ -62,16 +62,7 @@ module _ (positions : List Float) (lfe : List ℕ) (sources : ℕ) (accepted : o
 
   number-is : (why : ℕ) → answer why .number ≡ why
   unfolding answer
-  number-is why = by (eqb why 0) refl
-    where
-      by : (b : Bool) → eqb why 0 ≡ b
-          → cond {A = Opened} b
-          (record { number = 0; imaginary = imaginaryIn (layoutOf positions lfe .shape); session = fresh (pannerOf positions lfe) sources })
-          (record { number = why; imaginary = 0; session = noSession })
-          .number
-          ≡ why
-      by true e = sym (eqb-true why 0 e)
-      by false e = refl
+  number-is why = answer-number (λ (o : Opened). o .number) why refl refl
 
   nothing-refused : openRefusal positions lfe sources ≡ 0
   nothing-refused = sym (number-is (openRefusal positions lfe sources)) ∙ ap (λ (o : Opened). o .number) (sym open-is) ∙ accepted

@@ -6,11 +6,12 @@ use mathlib.Core.Logic.{_↔_}
 use mathlib.Core.List.{List, map}
 use lib.Dec.{T}
 use lib.Ieee.{Float, binary32, fits, toBits}
-use Rattle.sound.specs.Sound.{Each, Number, NoNan}
+use Rattle.lists.specs.Lists.{Each}
+use Rattle.sound.specs.Sound.{Number, NoNan}
 use Rattle.history.specs.Calls.{Call, place, takeBack, settle, render}
 use Rattle.history.specs.History.{past}
 use Rattle.session.specs.declared.Session.{Session}
-use Rattle.session.specs.Open.{openOf}
+use Rattle.session_open.specs.Open.{openOf}
 use Rattle.session.specs.Session.{afterAll}
 use Rattle.sessions_equal.specs.Demand3.{Alike}
 

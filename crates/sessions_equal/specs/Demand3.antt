@@ -7,7 +7,7 @@ use mathlib.Core.Logic.{_↔_}
 use mathlib.Core.List.{List}
 use lib.Ieee.{Float}
 use Rattle.history.specs.Calls.{Call}
-use Rattle.session.specs.Open.{openOf}
+use Rattle.session_open.specs.Open.{openOf}
 use Rattle.session.specs.Session.{afterAll}
 use Rattle.history.specs.History.{Past, past}
 

@@ -10,7 +10,7 @@ use Rattle.ieee.specs.Values.{+0}
 use Rattle.layout.specs.Layout.{layoutOf}
 use Rattle.gains.specs.Gains.{rowOf}
 use Rattle.history.specs.Calls.{place, takeBack, render}
-use Rattle.session.specs.Open.{openOf}
+use Rattle.session_open.specs.Open.{openOf}
 use Rattle.session.specs.Session.{afterAll}
 
 -- −0: 8000_0000

@@ -7,7 +7,7 @@ use lib.Ieee.{Float}
 use Rattle.layout.specs.Layout.{layoutOf}
 use Rattle.history.specs.Calls.{Call}
 use Rattle.history.specs.History.{refusal, history}
-use Rattle.session.specs.Open.{openOf}
+use Rattle.session_open.specs.Open.{openOf}
 use Rattle.session.specs.Session.{malformedSession, numberOf, afterAll}
 
 abbrev pub NeverMalformed : Type 0

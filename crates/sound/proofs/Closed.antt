@@ -1,23 +1,20 @@
--- The points of a hull are directions: the real ones, the poles and the candidates; and fourteen at most are not real. Assumes nothing.
-use Prim.Native.Nat.{ℕ, zero, suc, _+_, _-_, _*_, _^_, _≤_, zero-le}
+-- The points of a hull are directions: the real ones, the poles and the candidates. Assumes nothing.
+use Prim.Native.Nat.{ℕ, zero, suc, _*_, _^_, zero-le}
 use mathlib.Core.Path.{refl}
 use mathlib.Core.Bool.{Bool, true, false, not, _&&_, cond}
 use mathlib.Core.List.{[], _∷_, _++_}
 use mathlib.Core.Option.{Option, none, some}
-use native.Mathlib.Nat.{le-refl, le-suc}
-use native.Mathlib.Omega.{arith}
+use native.Mathlib.Nat.{le-refl}
 use lib.Dec.{lit≤}
-use lib.ListN.{length, length-append}
 use lib.Ieee.{Float, binary64, ofBits}
-use Rattle.lists.specs.Lists.{last}
+use Rattle.lists.specs.Lists.{Each}
 use Rattle.ieee.specs.Values.{+0, 1·0}
 use Rattle.vector.specs.Vector.{Vector, Points}
 use Rattle.hull.specs.Triplets.{closed}
-use Rattle.closing.specs.Closing.{h, −1, vector, poles, candidates, passedOver, withPole, withPoles, wins, better, candidateOf, onward, closing, stages, finalPoints}
+use Rattle.closing.specs.Closing.{h, vector, poles, candidates, passedOver, withPole, withPoles, wins, better, candidateOf, onward, closing, stages, finalPoints}
 use Rattle.bounds.proofs.Units.{Val}
 use Rattle.bounds.proofs.Size.{Mag, val-mag, mag-neg}
-use Rattle.sound.specs.Sound.{Each}
-use Rattle.sound.proofs.Each.{Some, each-append, each-last, foldl-keeps}
+use Rattle.lists.proofs.Each.{Some, each-append, each-last, foldl-keeps}
 use Rattle.sound.proofs.Directions.{L, Direction}
 
 -- ---- poles and candidates
@@ -35,61 +32,25 @@ h-val = record { has = (refl, refl) }
 h-mag : Mag binary64 h L
 h-mag = val-mag L h-val (lit≤ tt)
 
-vector-direction : {a b c : Float} → Mag binary64 a L → Mag binary64 b L → Mag binary64 c L → Direction (vector a b c)
-vector-direction a b c = record { three = refl; unit = (a, (b, (c, tt))) }
+toward : {a b c : Float} → Mag binary64 a L → Mag binary64 b L → Mag binary64 c L → Direction (vector a b c)
+toward a b c = record { three = refl; unit = (a, (b, (c, tt))) }
 
-pub poles-unit : Each Direction poles
-poles-unit = (vector-direction zero-mag one-mag zero-mag, (vector-direction zero-mag (mag-neg one-mag) zero-mag, tt))
+infixr 5 _also_
+_also_ : {A B : Type 0} → A → B → A × B
+a also b = (a, b)
 
-pub candidates-unit : Each Direction candidates
+poles-unit : Each Direction poles
+poles-unit = toward zero-mag one-mag zero-mag also toward zero-mag (mag-neg one-mag) zero-mag also tt
+
+candidates-unit : Each Direction candidates
 candidates-unit =
     let o = zero-mag in
     let i = one-mag in
     let j = mag-neg one-mag in
     let a = h-mag in
-    let b = mag-neg h-mag in (
-      vector-direction o i o,
-      (
-        vector-direction o j o,
-        (
-          vector-direction o o i,
-          (
-            vector-direction o o j,
-            (
-              vector-direction i o o,
-              (
-                vector-direction j o o,
-                (
-                  vector-direction a a a,
-                  (
-                    vector-direction b a a,
-                    (
-                      vector-direction a a b,
-                      (
-                        vector-direction b a b,
-                        (
-                          vector-direction a b a,
-                          (
-                            vector-direction b b a,
-                            (
-                              vector-direction a b b,
-                              (
-                                vector-direction b b b,
-                                tt,
-                              ),
-                            ),
-                          ),
-                        ),
-                      ),
-                    ),
-                  ),
-                ),
-              ),
-            ),
-          ),
-        ),
-      ),
-    )
+    let b = mag-neg h-mag in
+    toward o i o also toward o j o also toward o o i also toward o o j also toward i o o also toward j o o
+    also toward a a a also toward b a a also toward a a b also toward b a b also toward a b a also toward b b a also toward a b b also toward b b b also tt
 
 candidate-unit : (pts : Points) → Some Direction (candidateOf pts)
 unfolding candidateOf better
@@ -100,64 +61,30 @@ candidate-unit pts =
     by true b c d h = d
     by false b c d h = h
 
--- ---- the points grow
+-- ---- the points of every stage
 
-module _ (real : Points) where
-  -- directions, at least as many as the real points and at most n more
-  pub record Grown (n : ℕ) (pts : Points) : Type 0 where
-    pub unit : Each Direction pts
-    pub least : length real ≤ length pts
-    pub most : length pts ≤ length real + n
+pole-unit : (pts : Points) (c : Vector) → Direction c → Each Direction pts → Each Direction (withPole pts c)
+unfolding withPole
+pole-unit pts c d u = by (passedOver pts c)
+  where
+    by : (b : Bool) → Each Direction (cond b pts (pts ++ c ∷ []))
+    by true = u
+    by false = each-append Direction pts (c ∷ []) u (d, tt)
 
-  one-more : {n : ℕ} {pts : Points} (c : Vector) → Direction c → Grown n pts → Grown (suc n) (pts ++ c ∷ [])
-  one-more {n} {pts} c d g =
-      let e = length-append pts (c ∷ []) in
-      let a = g .least in
-      let b = g .most in
-      record { unit = each-append Direction pts (c ∷ []) (g .unit) (d, tt); least = omega arith; most = omega arith }
+closing-unit : (n : ℕ) (pts : Points) → Each Direction pts → Each (Each Direction) (closing n pts)
+unfolding closing
+closing-unit zero pts u = (u, tt)
+closing-unit (suc n) pts u =
+    (u, by (closed pts) (candidateOf pts) (candidate-unit pts) (λ c d. closing-unit n (pts ++ c ∷ []) (each-append Direction pts (c ∷ []) u (d, tt))))
+  where
+    by : (b : Bool) (o : Option Vector) → Some Direction o → ((c : Vector) → Direction c → Each (Each Direction) (closing n (pts ++ c ∷ [])))
+        → Each (Each Direction) (elim b [ true ↦ [] | false ↦ onward (closing n) pts o ])
+    by true o d k = tt
+    by false none d k = tt
+    by false (some c) d k = k c d
 
-  weaken : (m N : ℕ) (pts : Points) → m ≤ N → Grown m pts → Grown N pts
-  weaken m N pts h g = let b = g .most in record { unit = g .unit; least = g .least; most = omega arith }
-
-  pole-grown : {n : ℕ} {pts : Points} (c : Vector) → Direction c → Grown n pts → Grown (suc n) (withPole pts c)
-  unfolding withPole
-  pole-grown {n} {pts} c d g = by (passedOver pts c)
-    where
-      by : (b : Bool) → Grown (suc n) (cond b pts (pts ++ c ∷ []))
-      by true = weaken n (suc n) pts (le-suc n) g
-      by false = one-more c d g
-
-module _ (real : Points) (unit : Each Direction real) where
-  poles-grown : Grown real 2 (withPoles real)
-  unfolding withPoles
-  poles-grown =
-      pole-grown real (vector +0 −1 +0) (poles-unit .1 .0)
-      (pole-grown real (vector +0 1·0 +0) (poles-unit .0) (record { unit = unit; least = le-refl (length real); most = omega arith }))
-
-  closing-grown : (n m N : ℕ) (pts : Points) → m + n ≤ N → Grown real m pts → Each (Grown real N) (closing n pts)
-  unfolding closing
-  closing-grown zero m N pts h g = (weaken real m N pts (omega arith) g, tt)
-  closing-grown (suc n) m N pts h g =
-      (weaken real m N pts (omega arith) g, by (closed pts) (candidateOf pts) (candidate-unit pts) (λ c d. closing-grown n (suc m) N (pts ++ c ∷ []) (omega arith) (one-more real c d g)))
-    where
-      by : (b : Bool) (o : Option Vector) → Some Direction o → ((c : Vector) → Direction c → Each (Grown real N) (closing n (pts ++ c ∷ [])))
-          → Each (Grown real N) (elim b [ true ↦ [] | false ↦ onward (closing n) pts o ])
-      by true o d k = tt
-      by false none d k = tt
-      by false (some c) d k = k c d
-
-  last-closing : (P : Points → Type 0) (n : ℕ) (pts : Points) → Each P (closing n pts) → P (last (closing n pts) [])
-  unfolding closing last
-  last-closing P zero pts e = e .0
-  last-closing P (suc n) pts e = each-last P (elim (closed pts) [ true ↦ [] | false ↦ onward (closing n) pts (candidateOf pts) ]) pts (e .0) (e .1)
-
-  -- fourteen more at most, poles counted
-  pub final-grown : Grown real 14 (finalPoints real)
-  unfolding finalPoints stages
-  final-grown =
-      let pts = withPoles real in
-      let g = poles-grown in
-      let a = g .least in
-      let b = g .most in
-      let m = length pts - length real in
-      last-closing (Grown real 14) (14 - m) pts (closing-grown (14 - m) m 14 pts (omega arith) (record { unit = g .unit; least = g .least; most = omega arith }))
+pub final-unit : (real : Points) → Each Direction real → Each Direction (finalPoints real)
+unfolding finalPoints stages withPoles
+final-unit real u =
+    each-last (Each Direction) (stages real) [] tt
+    (closing-unit _ (withPoles real) (foldl-keeps (Each Direction) Direction withPole (λ pts c d e. pole-unit pts c d e) poles poles-unit real u))

@@ -1,8 +1,8 @@
 -- A direction that `unit` accepts has three numbers of at most 1 in size: of 32-bit numbers the squares are exact, a sum is no smaller than one of them, and so the length no smaller than the number. Assumes nothing.
 use mathlib.Core.Path.{_≡_, refl, sym, subst}
 use mathlib.Core.Logic.{inl, inr}
-use Prim.Native.Nat.{ℕ, _+_, _*_, _^_, _≤_, _<_, zero-le}
-use native.Mathlib.Nat.{le-trans, le-of-eq, lt-of-le-of-lt, mul-comm, mul-le-mul-right, eq-zero-or-pos}
+use Prim.Native.Nat.{ℕ, _*_, _^_, _≤_, _<_, zero-le}
+use native.Mathlib.Nat.{le-trans, le-of-eq, add-le-add, le-add-right, le-add-left, lt-of-le-of-lt, mul-comm, mul-le-mul-right, eq-zero-or-pos}
 use native.Mathlib.Omega.{arith}
 use mathlib.Core.Bool.{Bool, true, false, not, _||_, cond}
 use mathlib.Core.List.{[], _∷_}
@@ -21,8 +21,8 @@ use Rattle.bounds.proofs.Compare.{val-le, not-le-val}
 use Rattle.bounds.proofs.Finite.{finite-is, add-finite, square-finite, sqrt-finite}
 use Rattle.bounds.proofs.Square.{SquareOf, square-of}
 use Rattle.bounds.proofs.Root.{RootOf, sqrt-val, sqrt-zero}
-use Rattle.sound.specs.Sound.{Each}
-use Rattle.sound.proofs.Each.{Some, each-getD}
+use Rattle.lists.proofs.Each.{Some, each-getD}
+use Rattle.lists.specs.Lists.{Each}
 
 -- 1, in smallest values
 abbrev pub L : ℕ
@@ -71,28 +71,16 @@ module _ {a b c : Float} (p : SquareOf a) (q : SquareOf b) (r : SquareOf c) wher
   long-enough : T (not (le (lengthOf (a ∷ b ∷ c ∷ [])) shortest)) → Long
   unfolding lengthOf dotOf dotIn
   long-enough above =
-      let i = sum-val (2 ^ 1331) (p .square) (q .square) (held binary64 1 1331 (lit≤ tt)) (lit< tt) (both (p .n) (q .n) (2 ^ 1330) (2 ^ 1330) (2 ^ 1331) (p .square-most) (q .square-most) (lit≤ tt)) in
-      let j = sum-val (2 ^ 1332) (i .val) (r .square) (held binary64 1 1332 (lit≤ tt)) (lit< tt) (both (i .Z) (r .n) (2 ^ 1331) (2 ^ 1330) (2 ^ 1332) (i .most) (r .square-most) (lit≤ tt)) in
+      let i = sum-val (2 ^ 1331) (p .square) (q .square) (held binary64 1 1331 (lit≤ tt)) (lit< tt) (le-trans (add-le-add (p .square-most) (q .square-most)) (lit≤ tt)) in
+      let j = sum-val (2 ^ 1332) (i .val) (r .square) (held binary64 1 1332 (lit≤ tt)) (lit< tt) (le-trans (add-le-add (i .most) (r .square-most)) (lit≤ tt)) in
       elim (eq-zero-or-pos (j .Z)) [
         | inl e ↦ absurd (T-not (le (lengthOf (a ∷ b ∷ c ∷ [])) shortest) above (val-le (sqrt-zero (subst (λ (S : ℕ). Val binary64 (dotOf (a ∷ b ∷ c ∷ []) (a ∷ b ∷ c ∷ [])) false S) e (j .val))) short zero-le))
         | inr g ↦
             some-long (add-fits binary64 (add binary64 (mul binary64 a a) (mul binary64 b b)) (mul binary64 c c)) (j .val)
-            (j .least (p .n) (p .square-held) (left (p .n) (i .Z) (r .n) (i .least (p .n) (p .square-held) (first (p .n) (q .n)))))
-            (j .least (q .n) (q .square-held) (left (q .n) (i .Z) (r .n) (i .least (q .n) (q .square-held) (second (p .n) (q .n)))))
-            (j .least (r .n) (r .square-held) (second (i .Z) (r .n))) g
+            (j .least (p .n) (p .square-held) (le-trans (i .least (p .n) (p .square-held) (le-add-right (p .n) (q .n))) (le-add-right (i .Z) (r .n))))
+            (j .least (q .n) (q .square-held) (le-trans (i .least (q .n) (q .square-held) (le-add-left (q .n) (p .n))) (le-add-right (i .Z) (r .n))))
+            (j .least (r .n) (r .square-held) (le-add-left (r .n) (i .Z))) g
       ]
-    where
-      both : (u v A B C : ℕ) → u ≤ A → v ≤ B → A + B ≤ C → u + v ≤ C
-      both u v A B C h k l = omega arith
-
-      first : (u v : ℕ) → u ≤ u + v
-      first u v = omega arith
-
-      second : (u v : ℕ) → v ≤ u + v
-      second u v = omega arith
-
-      left : (u v w : ℕ) → u ≤ v → u ≤ v + w
-      left u v w h = omega arith
 
   unit-three : T (not (le (lengthOf (a ∷ b ∷ c ∷ [])) shortest)) → Direction (overOf (a ∷ b ∷ c ∷ []) (lengthOf (a ∷ b ∷ c ∷ [])))
   unfolding overOf

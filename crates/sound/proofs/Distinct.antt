@@ -1,45 +1,33 @@
 -- Laws of `member` and `Distinct`: a list's own elements, two places, and a sorted list's numbers. Assumes nothing.
 use Prim.Native.Nat.{ℕ, zero, suc, _<_}
 use mathlib.Core.Path.{_≡_, refl, sym, subst}
-use mathlib.Core.Bool.{Bool, true, false, _||_, true≢false, false≢true}
+use mathlib.Core.Bool.{true, false}
 use mathlib.Core.List.{List, [], _∷_, map, List·Permᴰ, List·Permᴰ·nil, List·Permᴰ·cons, List·Permᴰ·swap, List·Permᴰ·trans}
 use Rattle.order.proofs.Meaning.{sorted-meaning}
 use native.Mathlib.Nat.{not-suc-le-zero}
 use native.Mathlib.Omega.{arith}
-use borrow.Author.Tests.{eqb-true, eqb-false, eq-eqb, ne-eqb}
+use borrow.Author.Tests.{eqb-false, eq-eqb}
 use lib.Dec.{eqb}
 use lib.ListN.{length, getD}
-use Rattle.lists.specs.Lists.{any, member}
+use Rattle.lists.specs.Lists.{any, member, Each}
 use Rattle.order.specs.declared.Spot.{Spot}
 use Rattle.order.specs.Order.{sortedOf}
 use Rattle.neighbours.specs.Search.{Distinct}
-use Rattle.sound.specs.Sound.{Each}
-use Rattle.sound.proofs.Each.{each-imply, each-getD, each-map, each-unmap}
+use Rattle.neighbours.proofs.Choice.{or-right}
+use Rattle.neighbours.proofs.Distinct.{apart}
+use Rattle.lists.proofs.Tests.{neither}
+use Rattle.lists.proofs.Each.{each-imply, each-getD, each-map, each-unmap}
 
 -- ---- members
 
-or-true : (b : Bool) → b || true ≡ true
-or-true true = refl
-or-true false = refl
-
 pub member-more : (p a : ℕ) (l : List ℕ) → member p l ≡ true → member p (a ∷ l) ≡ true
 unfolding any
-member-more p a l h = rw h (or-true (eqb a p))
+member-more p a l h = or-right (eqb a p) (member p l) h
 
 pub member-self : (l : List ℕ) → Each (λ o. member o l ≡ true) l
 unfolding any
 member-self [] = tt
 member-self (a ∷ l) = (rw (eq-eqb a a refl), each-imply (λ o. member o l ≡ true) (λ o. member o (a ∷ l) ≡ true) (λ o h. member-more o a l h) l (member-self l))
-
--- what each element has, a member has
-pub each-member : (P : ℕ → Type 0) (l : List ℕ) (p : ℕ) → Each P l → member p l ≡ true → P p
-unfolding any
-each-member P [] p h e = absurd (false≢true e)
-each-member P (a ∷ l) p h e = by (eqb a p) refl (each-member P l p (h .1)) e
-  where
-    by : (b : Bool) → eqb a p ≡ b → (member p l ≡ true → P p) → b || member p l ≡ true → P p
-    by true g k e = subst P (eqb-true a p g) (h .0)
-    by false g k e = k e
 
 -- no element of what all differ from p is p
 pub member-none : (p : ℕ) (l : List ℕ) → Each (λ o. eqb o p ≡ false) l → member p l ≡ false
@@ -50,14 +38,7 @@ member-none p (a ∷ l) h = rw (h .0) (member-none p l (h .1))
 pub none-member : (p : ℕ) (l : List ℕ) → member p l ≡ false → Each (λ o. eqb o p ≡ false) l
 unfolding any
 none-member p [] h = tt
-none-member p (a ∷ l) h = by (eqb a p) refl h (none-member p l)
-  where
-    by : (b : Bool) → eqb a p ≡ b → b || member p l ≡ false → (member p l ≡ false → Each (λ o. eqb o p ≡ false) l) → (eqb a p ≡ false) × Each (λ o. eqb o p ≡ false) l
-    by true e h k = absurd (true≢false h)
-    by false e h k = (e, k h)
-
-flip : (a b : ℕ) → eqb a b ≡ false → eqb b a ≡ false
-flip a b h = ne-eqb b a (λ e. eqb-false a b h (sym e))
+none-member p (a ∷ l) h = let g = neither (eqb a p) (member p l) h in (g .0, none-member p l (g .1))
 
 -- ---- two places of a list without repetition
 
@@ -94,7 +75,7 @@ distinct-perm (List·Permᴰ·swap {a = a} {b = b} {a′ = c} {b′ = d} {l = l}
     let g = none-member (c .number) (numbersOf (d ∷ l)) (h .0) in
     subst (λ (t : Spot). Distinct (numbersOf (t ∷ b ∷ l))) (sym e)
     (subst (λ (t : Spot). Distinct (numbersOf (d ∷ t ∷ l))) (sym f)
-    (rw (flip (d .number) (c .number) (g .0)) (h .1 .0), (member-none (c .number) (numbersOf l) (g .1), h .1 .1)))
+    (rw (apart (d .number) (c .number) (g .0)) (h .1 .0), (member-none (c .number) (numbersOf l) (g .1), h .1 .1)))
 distinct-perm (List·Permᴰ·trans p q) h = distinct-perm p (distinct-perm q h)
 
 pub each-sorted : (P : Spot → Type 0) (l : List Spot) → Each P l → Each P (sortedOf l)

@@ -7,15 +7,17 @@ use native.Mathlib.Omega.{arith}
 use lib.Dec.{T, lit≤, lit<}
 use lib.ListN.{length}
 use lib.Ieee.{Float, binary64, mul, div, lt}
-use Rattle.lists.specs.Lists.{range, between}
+use Rattle.lists.specs.Lists.{range, between, Each}
 use Rattle.ieee.specs.Values.{abs}
 use Rattle.ieee.specs.Narrow.{narrowOf}
 use Rattle.vector.specs.Vector.{Vector, Points, dotOf, dotIn, crossOf, lengthOf}
-use Rattle.hull.specs.Triplets.{tiny, leastDistance, Verdict, skip, open-hull, keep, Plane, point, others, rawNormal, planeThrough, allBelow, allAbove, outward, coplanar, inFan, determinantOf, inverseOf, verdictBy, verdict, verdicts, kept, tripletsOf}
+use Rattle.faces.specs.Faces.{tiny, leastDistance, Plane, point, others, rawNormal, planeThrough, allBelow, allAbove, outward}
+use Rattle.fan.specs.Fan.{coplanar, inFan}
+use Rattle.hull.specs.Triplets.{Verdict, skip, open-hull, keep, determinantOf, inverseOf, verdictBy, verdict, verdicts, kept, tripletsOf}
 use Rattle.bounds.proofs.Held.{held}
 use Rattle.bounds.proofs.Size.{Mag, mag-mul, mag-add}
-use Rattle.sound.specs.Sound.{Each, Within, SoundTriplet, largestInverse}
-use Rattle.sound.proofs.Each.{Some, each-append, each-imply, each-getD, each-map, each-flatMap, each-collect, each-range, each-between}
+use Rattle.sound.specs.Sound.{Within, SoundTriplet, largestInverse}
+use Rattle.lists.proofs.Each.{Some, each-append, each-imply, each-getD, each-map, each-flatMap, each-collect, each-range, each-between}
 use Rattle.sound.proofs.Directions.{L, Direction, x-mag, y-mag, z-mag}
 use Rattle.sound.proofs.Inverses.{minor-mag, entry-within}
 

@@ -8,7 +8,7 @@ use lib.Ieee.Scale.{overflow}
 use Rattle.ieee.specs.Values.{abs}
 use Rattle.ieee.specs.Narrow.{narrowOf}
 use Rattle.vector.specs.Vector.{minor}
-use Rattle.hull.specs.Triplets.{tiny}
+use Rattle.faces.specs.Faces.{tiny}
 use Rattle.bounds.proofs.Units.{Val, unitsOf, narrow-fits}
 use Rattle.bounds.proofs.Held.{held, fits-held}
 use Rattle.bounds.proofs.Size.{Mag, mag-mul, mag-sub, mag-div, mag-narrow}

@@ -6,9 +6,9 @@ use mathlib.Core.List.{List, [], _∷_, map, flatMap}
 use native.Mathlib.Omega.{arith}
 use borrow.Author.Tests.{ne-eqb}
 use lib.Dec.{T, lit≤, lit<, eqb}
-use lib.ListN.{length, getD, length-map}
+use lib.ListN.{length, getD, length-map, length-append}
 use lib.Ieee.{Float, nan, inf, fin, binary32, binary64, fits, isNan, le, lt, eq}
-use Rattle.lists.specs.Lists.{range, between, every, member, filled}
+use Rattle.lists.specs.Lists.{range, between, every, member, filled, Each}
 use Rattle.lists.proofs.Ranges.{length-between}
 use Rattle.ieee.specs.Values.{+0, 1·0, abs}
 use Rattle.ieee.specs.Narrow.{narrowOf}
@@ -20,23 +20,25 @@ use Rattle.planar.specs.declared.PlanarPair.{PlanarPair}
 use Rattle.planar.specs.Planar.{noPair, pairsOf}
 use Rattle.hull.specs.Triplets.{Triplet, tripletsOf}
 use Rattle.closing.specs.Closing.{finalPoints}
+use Rattle.closing.proofs.Meaning.{imaginary-meaning}
 use Rattle.neighbours.specs.Search.{Distinct}
 use Rattle.neighbours.specs.Neighbours.{neighboursOf}
 use Rattle.panner.specs.Shape.{numbers, Shape, silent, mono, planar, hull, Layout}
 use Rattle.panner.specs.Panner.{pairsIn, hullIn, laid}
 use Rattle.panner.specs.Malformed.{usedSlots}
 use Rattle.layout.specs.Layout.{outputsOf, active, buildHullOf, level, shapeOf, layoutOf, pannerOf}
+use Rattle.layout.proofs.Slots.{active-few}
 use Rattle.bounds.proofs.Size.{Mag}
-use Rattle.sound.specs.Sound.{Each, Within, SoundLaw, SoundPair, SoundPlanar, SoundTriplet, SoundDirection, SoundNeighbours, SoundHull, Sound, Active, Number, NumberLaw, NumberPair, NoNan}
-use Rattle.sound.proofs.Each.{each-all, each-imply, each-append, each-getD, each-filled, each-map, each-flatMap, each-range}
-use Rattle.sound.proofs.Distinct.{member-none, each-member}
+use Rattle.sound.specs.Sound.{Within, SoundLaw, SoundPair, SoundPlanar, SoundTriplet, SoundDirection, SoundNeighbours, SoundHull, Sound, Active, Number, NumberLaw, NumberPair, NoNan}
+use Rattle.lists.proofs.Each.{each-all, each-imply, each-append, each-getD, each-filled, each-map, each-flatMap, each-range, each-member}
+use Rattle.sound.proofs.Distinct.{member-none}
 use Rattle.sound.proofs.Directions.{L, Direction}
 use Rattle.sound.proofs.Inverses.{narrow-within}
 use Rattle.sound.proofs.Pairs.{pairs-sound}
 use Rattle.sound.proofs.Faces.{triplets-sound}
-use Rattle.sound.proofs.Closed.{final-grown}
+use Rattle.sound.proofs.Closed.{final-unit}
 use Rattle.sound.proofs.Neighbours.{neighbours-sound}
-use Rattle.sound.proofs.Speakers.{ActiveSpeaker, active-each, active-distinct, active-few}
+use Rattle.sound.proofs.Speakers.{ActiveSpeaker, active-each, active-distinct}
 
 -- ---- the hull
 
@@ -69,9 +71,9 @@ module _ (outputs : ℕ) (act : List Speaker) (unit : Each (λ s. Direction (s .
       let real = dirsOf act in
       let out = slotsOf act in
       let pts = finalPoints real in
-      let g = final-grown real dirs-unit in
-      let a = g .least in
-      let b = g .most in
+      let g = imaginary-meaning real in
+      let a : length pts ≡ length real + length (g .points) = ap length (g .behind) ∙ length-append real (g .points) in
+      let b = g .few in
       let f = neighboursOf out (map numbers (tripletsOf pts)) in
       let n : length (map f (between (length real) (length pts))) ≡ length pts - length real = length-map (between (length real) (length pts)) f ∙ length-between (length real) (length pts) in
       let s = slots-many in
@@ -84,7 +86,7 @@ module _ (outputs : ℕ) (act : List Speaker) (unit : Each (λ s. Direction (s .
         low = low;
         as-many = length-map real (map narrowOf) ∙ d ∙ sym s;
         dirs = each-map SoundDirection (map narrowOf) real (each-imply Direction (λ v. SoundDirection (map narrowOf v)) narrow-direction real dirs-unit);
-        tris = subst (λ (m : ℕ). Each (SoundTriplet m) (tripletsOf pts)) all (triplets-sound pts (g .unit));
+        tris = subst (λ (m : ℕ). Each (SoundTriplet m) (tripletsOf pts)) all (triplets-sound pts (final-unit real dirs-unit));
         imaginary = omega arith;
         imag = each-map (SoundNeighbours out) f (between (length real) (length pts)) (each-all (λ p. SoundNeighbours out (f p)) (λ p. neighbours-sound out (map numbers (tripletsOf pts)) p) (between (length real) (length pts)));
       }

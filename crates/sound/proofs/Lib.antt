@@ -1,4 +1,3 @@
-pub mod Each
 pub mod Distinct
 pub mod Directions
 pub mod Inverses

@@ -5,11 +5,12 @@ use mathlib.Core.Bool.{true}
 use mathlib.Core.List.{List, [], _∷_}
 use lib.ListN.{getD}
 use Rattle.lists.specs.Lists.{member}
-use Rattle.neighbours.specs.Neighbours.{Reach, reach, pass, neighboursOf}
+use Rattle.neighbours.specs.Neighbours.{Reach, reach, neighboursOf}
 use Rattle.neighbours.proofs.Distinct.{distinct-snoc}
-use Rattle.neighbours.proofs.Sound.{reach-keeps, across-keeps, pass-keeps, passes-keeps}
+use Rattle.neighbours.proofs.Sound.{reach-keeps}
+use Rattle.neighbours.proofs.Laid.{search-keeps}
 use Rattle.sound.specs.Sound.{SoundNeighbours}
-use Rattle.sound.proofs.Each.{each-all, each-append, each-getD, foldl-keeps}
+use Rattle.lists.proofs.Each.{each-append, each-getD}
 use Rattle.sound.proofs.Distinct.{member-self}
 
 module _ (out : List ℕ) where
@@ -25,12 +26,5 @@ module _ (out : List ℕ) where
       })
       (λ l e f. h)
 
-  pass-kept : (tris : List (List ℕ)) (r : Reach) → Kept r → Kept (pass out tris r)
-  pass-kept tris r h =
-      pass-keeps Kept out tris (λ ps. Unit)
-      (λ s ps q k. across-keeps Kept out s ps k (λ _. foldl-keeps Kept (λ p. Unit) (reach out) (λ t p q g. reach-kept t p g) ps (each-all (λ p. Unit) (λ p. tt) ps) s k))
-      (each-all (λ ps. Unit) (λ ps. tt) tris) r h
-
   pub neighbours-sound : (tris : List (List ℕ)) (p : ℕ) → SoundNeighbours out (neighboursOf out tris p)
-  unfolding neighboursOf
-  neighbours-sound tris p = passes-keeps Kept out tris (pass-kept tris) 14 (record { visited = p ∷ []; nbrs = [] }) (record { apart = tt; real = tt })
+  neighbours-sound tris p = search-keeps Kept out tris reach-kept p (record { apart = tt; real = tt }) (SoundNeighbours out) (λ r k. k)

@@ -11,7 +11,7 @@ use lib.Dec.{T, lit≤, lit<, eqb}
 use lib.Pow.{pow-pos}
 use lib.ListN.{length, getD, length-map, List·getD-map}
 use lib.Ieee.{Float, nan, binary32, binary64, sub, neg, div, lt, fits, ofBits}
-use Rattle.lists.specs.Lists.{range, member}
+use Rattle.lists.specs.Lists.{range, member, Each}
 use Rattle.ieee.specs.Values.{abs}
 use Rattle.ieee.specs.Narrow.{narrowOf}
 use Rattle.ieee.specs.Remainder.{remEuclidOf}
@@ -33,8 +33,8 @@ use Rattle.bounds.proofs.Pi.{H, two-val, two-held}
 use Rattle.bounds.proofs.Angle.{rem-two-pi}
 use Rattle.bounds.proofs.Sine.{sin-mag, cos-mag}
 use Rattle.bounds.proofs.Arctangent.{atan2-mag}
-use Rattle.sound.specs.Sound.{Each, Within, SoundLaw, SoundPair, pi32, tau32, leastGap, largestInverse}
-use Rattle.sound.proofs.Each.{Some, each-map, each-unmap, each-both, each-getD, each-collect, each-range}
+use Rattle.sound.specs.Sound.{Within, SoundLaw, SoundPair, pi32, tau32, leastGap, largestInverse}
+use Rattle.lists.proofs.Each.{Some, each-map, each-unmap, each-both, each-getD, each-collect, each-range}
 use Rattle.sound.proofs.Distinct.{member-self, distinct-places, each-sorted, sorted-distinct, numbersOf}
 use Rattle.sound.proofs.Directions.{L, Direction, x-mag, z-mag}
 use Rattle.sound.proofs.Inverses.{narrow-within, minor-mag, entry-within}

@@ -7,18 +7,15 @@ use mathlib.Core.Option.{Option, none, some}
 use native.Mathlib.Omega.{arith}
 use borrow.Author.Tests.{ne-eqb}
 use lib.Dec.{T, eqb}
-use lib.ListN.{length}
 use lib.Ieee.{Float, binary32, fits}
-use Rattle.lists.specs.Lists.{from, range, collect, joined, member, part}
+use Rattle.lists.specs.Lists.{from, range, collect, joined, member, part, Each}
 use Rattle.lists.proofs.Parts.{length-part}
-use Rattle.lists.proofs.Ranges.{length-range}
-use Rattle.lists.proofs.Collect.{length-collect}
 use Rattle.vector.specs.Vector.{Vector, unitOf}
 use Rattle.vector.specs.Speakers.{Speaker, slotsOf}
 use Rattle.neighbours.specs.Search.{Distinct}
 use Rattle.layout.specs.Layout.{outputsOf, inSlot, speakerAt, active}
-use Rattle.sound.specs.Sound.{Each, Active}
-use Rattle.sound.proofs.Each.{Some, each-imply, each-map, each-part, each-collect, each-from, each-range}
+use Rattle.sound.specs.Sound.{Active}
+use Rattle.lists.proofs.Each.{Some, each-imply, each-map, each-part, each-collect, each-from, each-range}
 use Rattle.sound.proofs.Distinct.{member-none}
 use Rattle.sound.proofs.Directions.{Direction, unit-direction}
 
@@ -84,10 +81,3 @@ module _ (positions : List Float) (lfe : List ℕ) where
   pub active-distinct : Distinct (slotsOf (active positions lfe))
   unfolding active range
   active-distinct = from-distinct 0 (outputsOf positions)
-
-  pub active-few : length (active positions lfe) ≤ outputsOf positions
-  unfolding active
-  active-few =
-      let a = length-collect (speakerAt positions lfe) (range (outputsOf positions)) in
-      let b = length-range (outputsOf positions) in
-      omega arith

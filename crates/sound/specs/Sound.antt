@@ -9,7 +9,7 @@ use lib.Dec.{T}
 use lib.ListN.{length}
 use lib.IntN.{pos}
 use lib.Ieee.{Float, fin, binary32, fits, isNan, le, ofBits}
-use Rattle.lists.specs.Lists.{member, part}
+use Rattle.lists.specs.Lists.{Each, member, part}
 use Rattle.ieee.specs.Values.{1·0, abs}
 use Rattle.vector.specs.Vector.{Vector, unitOf}
 use Rattle.planar.specs.declared.Law.{Law}
@@ -20,11 +20,6 @@ use Rattle.neighbours.specs.Search.{Distinct}
 use Rattle.panner.specs.declared.VbapPanner.{VbapPanner}
 use Rattle.panner.specs.Shape.{HullShape, Shape, silent, mono, planar, hull}
 use Rattle.layout.specs.Layout.{outputsOf}
-
--- every element has the property P
-abbrev pub Each : {A : Type 0} → (A → Type 0) → List A → Type 0
-Each P [] = Unit
-Each P (x ∷ l) = P x × Each P l
 
 -- ---- bounds of 32-bit values
 

@@ -3,7 +3,7 @@ use mathlib.Core.Path.{_≡_, refl}
 use Prim.Native.Nat.{ℕ}
 use lib.Ieee.{binary64, round, add, sub, neg, mul, div, rem, eq, le, ofInt, ofBits}
 use Rattle.ieee.specs.Values.{abs, signBit}
-use Rattle.ieee.specs.Root.{sqrtOf}
+use Rattle.root.specs.Root.{sqrtOf}
 use Rattle.trig.specs.Series.{coefficients, sumOf, factorial}
 use Rattle.trig.specs.Sine.{S, C, sineCoefficients, cosineCoefficients, remainder, quotient, nearestWhole, quarter, reduced, mod4, sineBy, cosineBy, sinOf, cosOf}
 use Rattle.trig.specs.Arctangent.{arctangentCoefficients, halvedOf, eightfoldOf, atanOf, ratioOf, firstQuadrantOf, withSignOfX, withSignOfY, atan2Of}

@@ -5,7 +5,7 @@ use mathlib.Core.List.{List}
 use lib.IntN.{pos}
 use lib.Ieee.{Float, fin, binary64, add, sub, neg, mul, div, le, eq}
 use Rattle.ieee.specs.Values.{+0, 1·0, abs, signBit}
-use Rattle.ieee.specs.Root.{sqrtOf}
+use Rattle.root.specs.Root.{sqrtOf}
 use Rattle.trig.specs.Pi.{PI64, halfPi}
 use Rattle.trig.specs.Series.{coefficients, sumOf}
 

@@ -6,7 +6,7 @@ ghost use Rattle.ieee.specs.Values.{abs};
 ghost use Rattle.trig.specs.Series.{sumOf};
 ghost use Rattle.trig.specs.Sine.{4·0, remainder, nearestWhole, mod4, sineCoefficients, cosineCoefficients, sinOf, cosOf, sin32Of, cos32Of};
 ghost use Rattle.trig.specs.Arctangent.{arctangentCoefficients, halvedOf, atanOf, ratioOf, firstQuadrantOf, withSignOfX, withSignOfY, atan2Of};
-use ieee::Guess;
+use root::Guess;
 
 // Origin: document 01, "Number work": the 64-bit float nearest pi, 400921fb54442d18.
 pub const PI64: f64 = 3.141592653589793;
@@ -268,7 +268,7 @@ fn second_guess(c: f64) -> Guess {
     let slope = 0.48134620986511 + 0.1298441721390 * d
         - e * (0.0175128084946 - 0.0047240587952 * d)
         - e * e * (0.0016007975 - 0.0006067408 * d);
-    ieee::guess_of(root, root, slope)
+    root::guess_of(root, root, slope)
 }
 
 // The same for the third step, of a quarter of the angle.
@@ -282,21 +282,21 @@ fn third_guess(c: f64) -> Guess {
     let slope = 0.495314599481495 + 0.0327681064393 * d
         - e * (0.0055035176239 - 0.0015562774094 * d)
         - e * e * (0.0005382283 - 0.0002061300 * d);
-    ieee::guess_of(root, root, slope)
+    root::guess_of(root, root, slope)
 }
 
 // One of A's three steps, which halve the angle, with a guess at the root. Origin of 1.0: document 01, q / (1 + sqrt(1 + q q)).
 fn halved(q: f64, g: Guess) -> f64
     ensures { λ r. ⌜ r ≡ halvedOf q ⌝ }
 {
-    q / (1.0 + ieee::sqrt64_near(1.0 + q * q, g))
+    q / (1.0 + root::sqrt64_near(1.0 + q * q, g))
 }
 
 // A(q). Origin of 8.0: document 01, 8 (q times the sum), after three halvings. The guesses are good for a q from -1 to 1.
 pub fn atan(q: f64) -> f64
     ensures { λ r. ⌜ r ≡ atanOf q ⌝ }
 {
-    let g = ieee::guess_root(1.0 + q * q);
+    let g = root::guess_root(1.0 + q * q);
     // the slope is half of the cosine
     let c = g.slope * 2.0;
     let h = halved(halved(halved(q, g), second_guess(c)), third_guess(c));

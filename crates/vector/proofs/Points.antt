@@ -29,10 +29,6 @@ pub length-speakers : (n : ℕ) (out : List ℕ) (flat : List Float) → length 
 unfolding speakersIn
 length-speakers n out flat = length-map-range (speakerAt out flat) n
 
-pub speaker-at : (n : ℕ) (out : List ℕ) (flat : List Float) (i : ℕ) (d : Speaker) → i < n → getD (speakersIn n out flat) i d ≡ speakerAt out flat i
-unfolding speakersIn
-speaker-at n out flat i d h = getD-map-range (speakerAt out flat) n i d h
-
 pub speakers-snoc : (n : ℕ) (out : List ℕ) (flat : List Float) → speakersIn (n + 1) out flat ≡ speakersIn n out flat ++ speakerAt out flat n ∷ []
 unfolding speakersIn
 speakers-snoc n out flat = map-range-snoc (speakerAt out flat) n

@@ -1,4 +1,4 @@
--- Document 01, "Layout": an active speaker. Source line 192: its slot and its unit direction. Assumes nothing.
+-- Document 01, "Layout"; source line 192: active speakers. Assumes nothing.
 use Prim.Native.Nat.{ℕ}
 use mathlib.Core.List.{List, map}
 use lib.ListN.{getD}

@@ -8,7 +8,7 @@ use lib.ListN.{getD}
 use lib.Ieee.{Float, nan, Format, binary32, binary64, add, sub, neg, mul, div, le, ofBits}
 use Rattle.lists.specs.Lists.{range, part}
 use Rattle.ieee.specs.Values.{isFinite}
-use Rattle.ieee.specs.Root.{sqrtOf}
+use Rattle.root.specs.Root.{sqrtOf}
 use Rattle.trig.specs.Sine.{sin32Of, cos32Of}
 
 abbrev pub Vector : Type 0

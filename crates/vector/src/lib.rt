@@ -82,7 +82,7 @@ pub fn negated(a: [f64; 3]) -> [f64; 3]
 pub fn length64(a: [f64; 3]) -> f64
     ensures { λ r. ⌜ r ≡ lengthOf a ⌝ }
 {
-    ieee::sqrt64(dot(a, a))
+    root::sqrt64(dot(a, a))
 }
 
 // Point i of 54, three numbers a point. Origin of 54: document 01, 40 positions and 14 imaginary points; 162 = 54 * 3.

@@ -1,7 +1,7 @@
 //! The numbers that docs/DIFFERENCES.md quotes, in its order: the source beside Pulkki 1997, and
 //! the port beside the source.
 
-use super::{built, cover, degrees, edge_panners, row, rows, stored, summary, told};
+use super::{built, change, cover, degrees, edge_panners, row, rows, stored, summary, told};
 use crate::edges::{third_of_four, Position, BACK, F, LEFT, RIGHT, TOP};
 use crate::layout_line::Layout;
 use crate::layouts::{at, fan, front, opened, ring, triples};
@@ -183,11 +183,7 @@ fn choices() {
                 other += 1;
                 let p = vbap_measured::VbapPanner::of_record(&only(&record, first));
                 let (a, b) = (row(&four, az, el, 4), row(&p, az, el, 4));
-                let change = a
-                    .iter()
-                    .zip(&b)
-                    .map(|(a, b)| (a - b).abs())
-                    .fold(0.0, f32::max);
+                let change = change(&a, &b);
                 if change > greatest {
                     (greatest, at_most) = (change, (az, el));
                 }

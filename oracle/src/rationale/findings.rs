@@ -2,10 +2,10 @@
 //! far the candidates reach, angles beyond the pole, a back speaker with −0, and the take-back page.
 
 use super::{
-    built, degrees, direction, edge_panners, has_near, print_cover, real_triplets, row, rows,
-    stored, summary, told, DIRECTIONS, SEED,
+    built, change, degrees, direction, edge_panners, has_near, print_cover, real_triplets, row,
+    rows, stored, summary, told, DIRECTIONS, SEED,
 };
-use crate::chosen_layouts::{eight_imaginary, raised_centre};
+use crate::chosen_layouts::{eight_imaginary, five_around, raised_centre};
 use crate::edges::{edges, Position, F, LEFT, RIGHT, TOP};
 use crate::layouts::{at, fan, ordinary, ring, triples};
 use crate::random::Random;
@@ -190,11 +190,7 @@ fn back_speaker() {
         let az = degrees(-180.0 + step as f64 / 100.0);
         let (a, b) = (row(&plus, az, 0.0, 4), row(&minus, az, 0.0, 4));
         bits += usize::from(a.iter().zip(&b).any(|(x, y)| x.to_bits() != y.to_bits()));
-        greatest = a
-            .iter()
-            .zip(&b)
-            .map(|(x, y)| (x - y).abs())
-            .fold(greatest, f32::max);
+        greatest = greatest.max(change(&a, &b));
     }
     println!("    36000 azimuths: {bits} rows differ in a bit, by at most {greatest:e}");
 }
@@ -214,13 +210,7 @@ fn entries() {
         let [below, above] = edge_panners(tolerance).map(|p| greatest_entry(&p));
         println!("  greatest entry of an inverse either side of the {name}: {below:e}, {above:e}");
     }
-    let base = [
-        at(20.0, 10.0),
-        at(110.0, 5.0),
-        at(-100.0, 0.0),
-        at(170.0, 20.0),
-        at(40.0, 70.0),
-    ];
+    let base = five_around();
     let beside = [
         f32::from_bits(base[0][0].to_bits() + 1),
         base[0][1],
@@ -321,11 +311,7 @@ fn raised() {
             row(&level, degrees(az), 0.0, 8),
             row(&hull, degrees(az), 0.0, 8),
         );
-        let change = a
-            .iter()
-            .zip(&b)
-            .map(|(x, y)| (x - y).abs())
-            .fold(0.0, f32::max);
+        let change = change(&a, &b);
         if change > greatest {
             (greatest, place) = (change, az);
         }

@@ -1,9 +1,6 @@
 -- `hull::determinant` meets its contract: it makes the definition's calls on the three numbers of each point. Assumes nothing.
 use borrow.Author.Needs.{needs}
-use Rattle.lists.specs.Lists.{part}
-use Rattle.vector.specs.Vector.{crossOf}
-use Rattle.hull.specs.Triplets.{determinantOf}
-use Rattle.hull.proofs.Reading.{read-dot, read-cross}
+use Rattle.hull.proofs.Rows.{determinant-read}
 use Rattle.hull.proofs.determinant.Statement.{statement}
 use Rattle.hull.proofs.determinant.Tie as tie
 
@@ -23,11 +20,10 @@ dot-requires : tie.Need-dot-requires
 dot-requires c κs = search needs
 
 returns : tie.Need-returns
-unfolding determinantOf
 returns c =
-    let a = c .before .before .before .before .before .args in
-    let f = a .pts .now in
-    cc (read-cross f (a .j) (a .k), read-dot f (a .i) (crossOf (part 3 f (a .j)) (part 3 f (a .k))))
+    let p = c .before .before in
+    let a = p .before .before .before .args in
+    determinant-read (a .pts .now) (a .i) (a .j) (a .k) (p .before .before .point .ensures) (p .before .point2 .ensures) (p .point3 .ensures) (c .before .cross .ensures) (c .dot .ensures)
 
 pub determinant-spec : {M : Type 1} → statement M
 determinant-spec =

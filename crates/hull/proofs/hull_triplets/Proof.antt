@@ -9,33 +9,39 @@ use Rattle.vector.proofs.Points.{length-points}
 use Rattle.vector.specs.Vector.{pointsIn}
 use Rattle.hull.specs.Steps.{tiledOf}
 use Rattle.hull.specs.Triplets.{verdict, verdicts}
-use Rattle.hull.proofs.Laid.{laidOf, laid-start, put-full, put-more, tiled-laid}
+use Rattle.hull.proofs.Laid.{laidOf, laid-start, tiled-laid}
 use Rattle.hull.proofs.Verdicts.{at-first, at-second, at-third, first-none, second-none, third-none, third-done, second-done, all-verdicts}
-use Rattle.hull.proofs.Turns.{turn-skip, turn-open, turn-out, turn-small, turn-keep}
+use Rattle.hull.proofs.Turns.{Third, turn-skip, turn-open, turn-out, turn-small, turn-full, turn-keep}
 use Rattle.hull.proofs.hull_triplets.Statement.{statement}
 use Rattle.hull.proofs.hull_triplets.Tie as tie
 
 abbrev Inv-third : tie.InvT-third
-Inv-third pts n h₀ i j k₀ h k = (i + 1 ≤ j) × (j + 1 ≤ k) × (k ≤ n) × (n ≤ 54) × (h ≡ laidOf n (at-third (verdict (pointsIn n pts)) n i j k))
+Inv-third pts n near h₀ i j k₀ h k = Third n pts i j k h
 
 abbrev μ-third : tie.MeasureT-third
-μ-third pts n h₀ i j k₀ h k = n - k
+μ-third pts n near h₀ i j k₀ h k = n - k
 
 abbrev Inv-second : tie.InvT-second
-Inv-second pts n h₀ i j₀ h j = (i + 1 ≤ j) × (j ≤ n) × (n ≤ 54) × (h ≡ laidOf n (at-second (verdict (pointsIn n pts)) n i j))
+Inv-second pts n near h₀ i j₀ h j = (i + 1 ≤ j) × (j ≤ n) × (n ≤ 54) × (h ≡ laidOf n (at-second (verdict (pointsIn n pts)) n i j))
 
 abbrev μ-second : tie.MeasureT-second
-μ-second pts n h₀ i j₀ h j = n - j
+μ-second pts n near h₀ i j₀ h j = n - j
 
 abbrev Inv-first : tie.InvT-first
-Inv-first pts n h₀ i₀ h i = (i ≤ n) × (n ≤ 54) × (h ≡ laidOf n (at-first (verdict (pointsIn n pts)) n i))
+Inv-first pts n near h₀ i₀ h i = (i ≤ n) × (n ≤ 54) × (h ≡ laidOf n (at-first (verdict (pointsIn n pts)) n i))
 
 abbrev μ-first : tie.MeasureT-first
-μ-first pts n h₀ i₀ h i = n - i
+μ-first pts n near h₀ i₀ h i = n - i
+
+all-near-requires :
+    tie.Need-all-near-requires Inv-third μ-third Inv-second μ-second Inv-first μ-first
+all-near-requires c κs = search needs
 
 first-holds : tie.Need-first-holds Inv-third μ-third Inv-second μ-second Inv-first μ-first
 unfolding ofBits
-first-holds c = (zero-le, c .pre, laid-start (c .args .n) ∙ ap (laidOf (c .args .n)) (sym (first-none (verdict (pointsIn (c .args .n) (c .args .pts .now))) (c .args .n))))
+first-holds c =
+    let g = c .before in
+    (zero-le, g .pre, laid-start (g .args .n) ∙ ap (laidOf (g .args .n)) (sym (first-none (verdict (pointsIn (g .args .n) (g .args .pts .now))) (g .args .n))))
 
 add-j : tie.Need-add-j Inv-third μ-third Inv-second μ-second Inv-first μ-first
 add-j c = omega arith
@@ -43,7 +49,7 @@ add-j c = omega arith
 second-holds : tie.Need-second-holds Inv-third μ-third Inv-second μ-second Inv-first μ-first
 second-holds c =
     let f = c .before in
-    let g = f .before in
+    let g = f .before .before in
     (omega arith, omega arith, omega arith, f .first .inv .2 ∙ ap (laidOf (g .args .n)) (sym (second-none (verdict (pointsIn (g .args .n) (g .args .pts .now))) (g .args .n) (f .first .i))))
 
 add-k : tie.Need-add-k Inv-third μ-third Inv-second μ-second Inv-first μ-first
@@ -53,7 +59,7 @@ third-holds : tie.Need-third-holds Inv-third μ-third Inv-second μ-second Inv-f
 third-holds c =
     let s = c .before in
     let f = s .before .before in
-    let g = f .before in
+    let g = f .before .before in
     (omega arith, omega arith, omega arith, omega arith, s .second .inv .3 ∙ ap (laidOf (g .args .n)) (sym (third-none (verdict (pointsIn (g .args .n) (g .args .pts .now))) (g .args .n) (f .first .i) (s .second .j))))
 
 face-test-requires :
@@ -74,8 +80,8 @@ third-again c =
     let t = c .before .before .before .before in
     let s = t .before .before in
     let f = s .before .before in
-    let g = f .before in
-    (omega arith, omega arith, omega arith, omega arith, turn-skip (g .args .n) (g .args .pts .now) (f .first .i) (s .second .j) (t .third .k) (t .third .inv .0) (t .third .inv .1) (c .before .before .before .third-test .taken) (t .third .h) (t .third .inv .4) (sym (c .before .before .face-test .ensures) ∙ c .enum-told .given .1))
+    let g = f .before .before in
+    turn-skip (g .args .n) (g .args .pts .now) (f .first .i) (s .second .j) (t .third .k) (t .third .h) (t .third .inv) (c .before .before .before .third-test .taken) (c .before .before .face-test .ensures) (c .enum-told .given .1)
 
 enum-told-2 : tie.Need-enum-told-2 Inv-third μ-third Inv-second μ-second Inv-first μ-first
 enum-told-2 c = search needs
@@ -91,8 +97,8 @@ third-again-2 c =
     let t = c .before .before .before .before in
     let s = t .before .before in
     let f = s .before .before in
-    let g = f .before in
-    (omega arith, omega arith, omega arith, omega arith, turn-open (g .args .n) (g .args .pts .now) (f .first .i) (s .second .j) (t .third .k) (t .third .inv .0) (t .third .inv .1) (c .before .before .before .third-test .taken) (t .third .h) (t .third .inv .4) (sym (c .before .before .face-test .ensures) ∙ c .enum-told2 .given .1))
+    let g = f .before .before in
+    turn-open (g .args .n) (g .args .pts .now) (f .first .i) (s .second .j) (t .third .k) (t .third .h) (t .third .inv) (c .before .before .before .third-test .taken) (c .before .before .face-test .ensures) (c .enum-told2 .given .1)
 
 enum-known-x : tie.Need-enum-known-x Inv-third μ-third Inv-second μ-second Inv-first μ-first
 enum-known-x c = search needs
@@ -111,8 +117,8 @@ third-again-3 c =
     let t = c .before .before .before .before .before .before .before in
     let s = t .before .before in
     let f = s .before .before in
-    let g = f .before in
-    (omega arith, omega arith, omega arith, omega arith, turn-out (g .args .n) (g .args .pts .now) (f .first .i) (s .second .j) (t .third .k) (t .third .inv .0) (t .third .inv .1) (c .before .before .before .before .before .before .third-test .taken) (t .third .h) (t .third .inv .4) _ _ _ _ (sym (c .before .before .before .before .before .face-test .ensures) ∙ c .before .before .before .x .given .1) (sym (c .before .in-fan .ensures) ∙ not-true _ (c .if1 .taken)))
+    let g = f .before .before in
+    turn-out (g .args .n) (g .args .pts .now) (f .first .i) (s .second .j) (t .third .k) (t .third .h) (t .third .inv) (c .before .before .before .before .before .before .third-test .taken) (c .before .before .before .before .before .face-test .ensures) (c .before .before .before .x .given .1) (c .before .in-fan .ensures) (not-true _ (c .if1 .taken))
 
 determinant-requires :
     tie.Need-determinant-requires Inv-third μ-third Inv-second μ-second Inv-first μ-first
@@ -132,8 +138,8 @@ third-again-4 c =
     let t = c .before .before .before .before .before .before .before .before .before .before in
     let s = t .before .before in
     let f = s .before .before in
-    let g = f .before in
-    (omega arith, omega arith, omega arith, omega arith, turn-small (g .args .n) (g .args .pts .now) (f .first .i) (s .second .j) (t .third .k) (t .third .inv .0) (t .third .inv .1) (c .before .before .before .before .before .before .before .before .before .third-test .taken) (t .third .h) (t .third .inv .4) _ _ _ _ (sym (c .before .before .before .before .before .before .before .before .face-test .ensures) ∙ c .before .before .before .before .before .before .x .given .1) (sym (c .before .before .before .before .in-fan .ensures) ∙ not-false _ (c .before .before .before .if1 .left)) (rw (← c .before .before .determinant .ensures, ← c .before .abs64 .ensures) (c .if2 .taken)))
+    let g = f .before .before in
+    turn-small (g .args .n) (g .args .pts .now) (f .first .i) (s .second .j) (t .third .k) (t .third .h) (t .third .inv) (c .before .before .before .before .before .before .before .before .before .third-test .taken) (c .before .before .before .before .before .before .before .before .face-test .ensures) (c .before .before .before .before .before .before .x .given .1) (c .before .before .before .before .in-fan .ensures) (not-false _ (c .before .before .before .if1 .left)) (c .before .before .determinant .ensures) (c .before .abs64 .ensures) (c .if2 .taken)
 
 add-k-6 : tie.Need-add-k-6 Inv-third μ-third Inv-second μ-second Inv-first μ-first
 add-k-6 c = omega (arith, c .before .before .before .before .before .before .before .before .before .before .third-test .taken)
@@ -143,14 +149,12 @@ third-less-5 c = omega (arith, c .before .before .before .before .before .before
 
 third-again-5 : tie.Need-third-again-5 Inv-third μ-third Inv-second μ-second Inv-first μ-first
 third-again-5 c =
-    let t = c .before .before .before .before .before .before .before .before .before .before .before in
+    let v = c .before .before .before .before .before .before .before .before .before .before in
+    let t = v .before in
     let s = t .before .before in
     let f = s .before .before in
-    let g = f .before in
-    let v = c .before .before .before .before .before .before .before .before .before .before in
-    let w = c .before .before .before in
-    let kept = turn-keep (g .args .n) (g .args .pts .now) (f .first .i) (s .second .j) (t .third .k) (t .third .inv .0) (t .third .inv .1) (v .third-test .taken) (t .third .h) (t .third .inv .4) _ _ _ _ (sym (c .before .before .before .before .before .before .before .before .before .face-test .ensures) ∙ c .before .before .before .before .before .before .before .x .given .1) (sym (c .before .before .before .before .before .in-fan .ensures) ∙ not-false _ (c .before .before .before .before .if1 .left)) (rw (← w .determinant .ensures, ← c .before .before .abs64 .ensures) (c .before .if2 .left)) in
-    (t .third .inv .0, omega (arith, t .third .inv .1), omega (arith, v .third-test .taken), t .third .inv .3, put-full (t .third .h) (f .first .i) (s .second .j) (t .third .k) _ (c .if3 .taken) ∙ kept)
+    let g = f .before .before in
+    turn-full (g .args .n) (g .args .pts .now) (f .first .i) (s .second .j) (t .third .k) (t .third .h) (t .third .inv) (v .third-test .taken) (c .before .before .before .before .before .before .before .before .before .face-test .ensures) (c .before .before .before .before .before .before .before .x .given .1) (c .before .before .before .before .before .in-fan .ensures) (not-false _ (c .before .before .before .before .if1 .left)) (c .before .before .before .determinant .ensures) (c .before .before .abs64 .ensures) (c .before .if2 .left) (c .if3 .taken)
 
 inverse-requires :
     tie.Need-inverse-requires Inv-third μ-third Inv-second μ-second Inv-first μ-first
@@ -178,14 +182,13 @@ third-less-6 c = omega (arith, c .before .before .before .before .before .before
 
 third-again-6 : tie.Need-third-again-6 Inv-third μ-third Inv-second μ-second Inv-first μ-first
 third-again-6 c =
-    let t = c .before .before .before .before .before .before .before .before .before .before .before .before .before .before .before .before in
+    let w = c .before .before .before .before .before .before .before .before in
+    let v = w .before .before .before .before .before .before .before in
+    let t = v .before in
     let s = t .before .before in
     let f = s .before .before in
-    let g = f .before in
-    let v = c .before .before .before .before .before .before .before .before .before .before .before .before .before .before .before in
-    let w = c .before .before .before .before .before .before .before .before in
-    let kept = turn-keep (g .args .n) (g .args .pts .now) (f .first .i) (s .second .j) (t .third .k) (t .third .inv .0) (t .third .inv .1) (v .third-test .taken) (t .third .h) (t .third .inv .4) _ _ _ _ (sym (c .before .before .before .before .before .before .before .before .before .before .before .before .before .before .face-test .ensures) ∙ c .before .before .before .before .before .before .before .before .before .before .before .before .x .given .1) (sym (c .before .before .before .before .before .before .before .before .before .before .in-fan .ensures) ∙ not-false _ (c .before .before .before .before .before .before .before .before .before .if1 .left)) (rw (← w .determinant .ensures, ← c .before .before .before .before .before .before .before .abs64 .ensures) (c .before .before .before .before .before .before .if2 .left)) in
-    (t .third .inv .0, omega (arith, t .third .inv .1), omega (arith, v .third-test .taken), t .third .inv .3, rw (c .put-inverse .ensures, c .before .before .put-numbers .ensures, c .before .before .before .before .inverse .ensures, w .determinant .ensures) (put-more (t .third .h) (f .first .i) (s .second .j) (t .third .k) _ (c .before .before .before .before .before .if3 .left) ∙ kept))
+    let g = f .before .before in
+    turn-keep (g .args .n) (g .args .pts .now) (f .first .i) (s .second .j) (t .third .k) (t .third .h) (t .third .inv) (v .third-test .taken) (w .before .before .before .before .before .before .face-test .ensures) (w .before .before .before .before .x .given .1) (w .before .before .in-fan .ensures) (not-false _ (w .before .if1 .left)) (w .determinant .ensures) (c .before .before .before .before .before .before .before .abs64 .ensures) (c .before .before .before .before .before .before .if2 .left) (c .before .before .before .before .before .if3 .left) (c .before .before .before .before .inverse .ensures) (c .before .before .put-numbers .ensures) (c .put-inverse .ensures)
 
 add-j-2 : tie.Need-add-j-2 Inv-third μ-third Inv-second μ-second Inv-first μ-first
 add-j-2 c = omega arith
@@ -198,7 +201,7 @@ second-again c =
     let t = c .before in
     let s = t .before .before in
     let f = s .before .before in
-    let g = f .before in
+    let g = f .before .before in
     let e : t .third .k ≡ g .args .n = omega arith in
     let h : t .third .h ≡ laidOf (g .args .n) (at-third (verdict (pointsIn (g .args .n) (g .args .pts .now))) (g .args .n) (f .first .i) (s .second .j) (g .args .n)) = t .third .inv .4 ∙ ap (λ (m : ℕ). laidOf (g .args .n) (at-third (verdict (pointsIn (g .args .n) (g .args .pts .now))) (g .args .n) (f .first .i) (s .second .j) m)) e in
     (omega arith, omega arith, omega arith, h ∙ ap (laidOf (g .args .n)) (third-done (verdict (pointsIn (g .args .n) (g .args .pts .now))) (g .args .n) (f .first .i) (s .second .j) (s .second .inv .0)))
@@ -213,7 +216,7 @@ first-again : tie.Need-first-again Inv-third μ-third Inv-second μ-second Inv-f
 first-again c =
     let s = c .before in
     let f = s .before .before in
-    let g = f .before in
+    let g = f .before .before in
     let e : s .second .j ≡ g .args .n = omega arith in
     let h : s .second .h ≡ laidOf (g .args .n) (at-second (verdict (pointsIn (g .args .n) (g .args .pts .now))) (g .args .n) (f .first .i) (g .args .n)) = s .second .inv .3 ∙ ap (λ (m : ℕ). laidOf (g .args .n) (at-second (verdict (pointsIn (g .args .n) (g .args .pts .now))) (g .args .n) (f .first .i) m)) e in
     (omega arith, omega arith, h ∙ ap (laidOf (g .args .n)) (second-done (verdict (pointsIn (g .args .n) (g .args .pts .now))) (g .args .n) (f .first .i)))
@@ -222,7 +225,7 @@ returns : tie.Need-returns Inv-third μ-third Inv-second μ-second Inv-first μ-
 unfolding tiledOf
 returns c =
     let f = c .before in
-    let g = f .before in
+    let g = f .before .before in
     let e : f .first .i ≡ g .args .n = omega arith in
     let h : f .first .h ≡ laidOf (g .args .n) (at-first (verdict (pointsIn (g .args .n) (g .args .pts .now))) (g .args .n) (g .args .n)) = f .first .inv .2 ∙ ap (λ (m : ℕ). laidOf (g .args .n) (at-first (verdict (pointsIn (g .args .n) (g .args .pts .now))) (g .args .n) m)) e in
     let l = length-points (g .args .n) (g .args .pts .now) in
@@ -238,6 +241,7 @@ hull-triplets-spec =
     μ-second
     Inv-first
     μ-first
+    all-near-requires
     first-holds
     add-j
     second-holds

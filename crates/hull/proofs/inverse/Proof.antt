@@ -1,10 +1,6 @@
 -- `hull::inverse` meets its contract: each row is a vector product divided by the determinant and narrowed. Assumes nothing.
-use mathlib.Core.Path.{_≡_}
 use borrow.Author.Needs.{needs}
-use Rattle.lists.specs.Lists.{part}
-use Rattle.vector.specs.Vector.{crossOf}
-use Rattle.hull.specs.Steps.{rowOf}
-use Rattle.hull.proofs.Reading.{read-cross, rows-inverse}
+use Rattle.hull.proofs.Rows.{inverse-read}
 use Rattle.hull.proofs.inverse.Statement.{statement}
 use Rattle.hull.proofs.inverse.Tie as tie
 
@@ -64,12 +60,9 @@ array-read-t40 c = search needs
 
 returns : tie.Need-returns
 returns c =
-    let a = c .before .before .before .before .before .before .before .before .before .args in
-    let f = a .pts .now in
-    let r0 : c .before .before .before .before .row .result ≡ rowOf (crossOf (part 3 f (a .j)) (part 3 f (a .k))) (a .det) = cc (read-cross f (a .j) (a .k)) in
-    let r1 : c .before .before .row2 .result ≡ rowOf (crossOf (part 3 f (a .k)) (part 3 f (a .i))) (a .det) = cc (read-cross f (a .k) (a .i)) in
-    let r2 : c .row3 .result ≡ rowOf (crossOf (part 3 f (a .i)) (part 3 f (a .j))) (a .det) = cc (read-cross f (a .i) (a .j)) in
-    rw (r0, r1, r2) (rows-inverse _ _ _ _)
+    let p = c .before .before .before .before .before .before in
+    let a = p .before .before .before .args in
+    inverse-read (a .pts .now) (a .i) (a .j) (a .k) (p .before .before .point .ensures) (p .before .point2 .ensures) (p .point3 .ensures) (a .det) (c .before .before .before .before .before .cross .ensures) (c .before .before .before .before .row .ensures) (c .before .before .before .cross2 .ensures) (c .before .before .row2 .ensures) (c .before .cross3 .ensures) (c .row3 .ensures)
 
 pub inverse-spec : {M : Type 1} → statement M
 inverse-spec =

@@ -1,6 +1,6 @@
 -- `hull::row` meets its contract: three quotients, each narrowed. Assumes nothing.
 use borrow.Author.Needs.{needs}
-use Rattle.hull.specs.Steps.{rowOf}
+use Rattle.hull.proofs.Rows.{row-computed}
 use Rattle.hull.proofs.row.Statement.{statement}
 use Rattle.hull.proofs.row.Tie as tie
 
@@ -23,8 +23,9 @@ narrow-requires-3 : tie.Need-narrow-requires-3
 narrow-requires-3 c κs = search needs
 
 returns : tie.Need-returns
-unfolding rowOf
-returns c = cc
+returns c =
+    let a = c .before .before .before .args in
+    row-computed (a .t1) (a .det) (c .before .before .narrow .ensures) (c .before .narrow2 .ensures) (c .narrow3 .ensures)
 
 pub row-spec : {M : Type 1} → statement M
 row-spec =

@@ -1,4 +1,5 @@
 -- `hull_row::gain` meets its contract: the three entries of a row stand 80 apart. Assumes nothing.
+use mathlib.Core.Path.{_∙_}
 use denote.Ref.{now}
 use Rattle.hull_row.proofs.Places.{gain-told}
 use borrow.Author.Needs.{needs}
@@ -11,43 +12,37 @@ mul-at c = search needs
 add-at : tie.Need-add-at
 add-at c = search needs
 
-mul-result : tie.Need-mul-result
-mul-result c = search needs
+mul-dot : tie.Need-mul-dot
+mul-dot c = search needs
 
-shared-slice-read-result : tie.Need-shared-slice-read-result
-shared-slice-read-result c = search needs
+shared-slice-read-dot : tie.Need-shared-slice-read-dot
+shared-slice-read-dot c = search needs
 
-array-read-result : tie.Need-array-read-result
-array-read-result c = search needs
+add-dot : tie.Need-add-dot
+add-dot c = search needs
 
-add-result : tie.Need-add-result
-add-result c = search needs
+mul-dot-2 : tie.Need-mul-dot-2
+mul-dot-2 c = search needs
 
-mul-result-2 : tie.Need-mul-result-2
-mul-result-2 c = search needs
+shared-slice-read-dot-2 : tie.Need-shared-slice-read-dot-2
+shared-slice-read-dot-2 c = search needs
 
-shared-slice-read-result-2 : tie.Need-shared-slice-read-result-2
-shared-slice-read-result-2 c = search needs
+add-dot-2 : tie.Need-add-dot-2
+add-dot-2 c = search needs
 
-array-read-result-2 : tie.Need-array-read-result-2
-array-read-result-2 c = search needs
+mul-dot-3 : tie.Need-mul-dot-3
+mul-dot-3 c = search needs
 
-add-result-2 : tie.Need-add-result-2
-add-result-2 c = search needs
+shared-slice-read-dot-3 : tie.Need-shared-slice-read-dot-3
+shared-slice-read-dot-3 c = search needs
 
-mul-result-3 : tie.Need-mul-result-3
-mul-result-3 c = search needs
-
-shared-slice-read-result-3 : tie.Need-shared-slice-read-result-3
-shared-slice-read-result-3 c = search needs
-
-array-read-result-3 : tie.Need-array-read-result-3
-array-read-result-3 c = search needs
+dot-requires : tie.Need-dot-requires
+dot-requires c κs = search needs
 
 returns : tie.Need-returns
 returns c =
-    let s = c .before .before .before in
-    gain-told (s .args .t4) (now (s .args .inv)) (s .args .t) (s .args .r) (s .pre .1)
+    let s = c .before .before .before .before .before in
+    c .dot .ensures ∙ gain-told (s .args .s) (now (s .args .inv)) (s .args .t) (s .args .r) (s .pre .1)
 
 pub gain-spec : {M : Type 1} → statement M
 gain-spec =
@@ -55,15 +50,13 @@ gain-spec =
     (tie.spec
     mul-at
     add-at
-    mul-result
-    shared-slice-read-result
-    array-read-result
-    add-result
-    mul-result-2
-    shared-slice-read-result-2
-    array-read-result-2
-    add-result-2
-    mul-result-3
-    shared-slice-read-result-3
-    array-read-result-3
+    mul-dot
+    shared-slice-read-dot
+    add-dot
+    mul-dot-2
+    shared-slice-read-dot-2
+    add-dot-2
+    mul-dot-3
+    shared-slice-read-dot-3
+    dot-requires
     returns)

@@ -1,5 +1,6 @@
 -- `hull_row::gains_at` meets its contract: the callees' promises. Assumes nothing.
-use Rattle.hull_row.specs.Steps.{gainsAt}
+use denote.Ref.{now}
+use Rattle.hull_row.proofs.Places.{gains-told}
 use borrow.Author.Needs.{needs}
 use Rattle.hull_row.proofs.gains_at.Statement.{statement}
 use Rattle.hull_row.proofs.gains_at.Tie as tie
@@ -14,8 +15,9 @@ gain-requires-3 : tie.Need-gain-requires-3
 gain-requires-3 c κs = search needs
 
 returns : tie.Need-returns
-unfolding gainsAt
-returns c = cc
+returns c =
+    let a = c .before .before .before .before .args in
+    gains-told (a .s) (now (a .inv)) (a .t) _ _ _ (c .before .before .gain .ensures) (c .before .gain2 .ensures) (c .gain3 .ensures)
 
 pub gains-at-spec : {M : Type 1} → statement M
 gains-at-spec = tie.close (tie.spec gain-requires gain-requires-2 gain-requires-3 returns)

@@ -1,5 +1,6 @@
 -- `hull_row::least` meets its contract: the callees' promises, one after the other. Assumes nothing.
-use Rattle.hull_row.specs.Steps.{leastAt}
+use denote.Ref.{now}
+use Rattle.hull_row.proofs.Places.{least-told}
 use borrow.Author.Needs.{needs}
 use Rattle.hull_row.proofs.least.Statement.{statement}
 use Rattle.hull_row.proofs.least.Tie as tie
@@ -20,8 +21,9 @@ lesser-requires-2 : tie.Need-lesser-requires-2
 lesser-requires-2 c κs = search needs
 
 returns : tie.Need-returns
-unfolding leastAt
-returns c = cc
+returns c =
+    let a = c .before .before .before .before .before .before .args in
+    least-told (a .s) (now (a .inv)) (a .t) _ _ _ (c .before .before .before .before .gain .ensures) (c .before .before .before .gain2 .ensures) (c .before .gain3 .ensures) _ _ (c .before .before .lesser .ensures) (c .lesser2 .ensures)
 
 pub least-spec : {M : Type 1} → statement M
 least-spec =

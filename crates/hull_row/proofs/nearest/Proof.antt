@@ -1,26 +1,19 @@
 -- `hull_row::nearest` meets its contract: the place that is found, and its slot where it is one. Assumes nothing.
-use Rattle.hull_row.proofs.Places.{front-filled, nearest-set, nearest-none}
-use Rattle.hull_row.proofs.Choice.{length-products}
-use Rattle.hull_row.specs.Steps.{productsOf, firstGreatest, nearestIn}
-use lib.Ieee.{ofBits}
+use mathlib.Core.Path.{ap, _∙_}
 use native.Mathlib.Omega.{arith}
 use denote.Ref.{now}
-use mathlib.Core.Path.{ap, _∙_}
+use lib.Ieee.{ofBits}
+use Rattle.hull_row.specs.Steps.{nearestIn}
+use Rattle.hull_row.proofs.Places.{nearest-set, nearest-none}
 use borrow.Author.Needs.{needs}
 use Rattle.hull_row.proofs.nearest.Statement.{statement}
 use Rattle.hull_row.proofs.nearest.Tie as tie
 
-slice-aggregate-products : tie.Need-slice-aggregate-products
-slice-aggregate-products c = search needs
+slice-aggregate-nearest-point : tie.Need-slice-aggregate-nearest-point
+slice-aggregate-nearest-point c = search needs
 
-products-requires : tie.Need-products-requires
-products-requires c κs = search needs
-
-slice-aggregate-first-greatest : tie.Need-slice-aggregate-first-greatest
-slice-aggregate-first-greatest c = search needs
-
-first-greatest-requires : tie.Need-first-greatest-requires
-first-greatest-requires c κs = search needs
+nearest-point-requires : tie.Need-nearest-point-requires
+nearest-point-requires c κs = search needs
 
 zero-requires : tie.Need-zero-requires
 zero-requires c κs = search needs
@@ -37,10 +30,10 @@ same-length c = search needs
 returns : tie.Need-returns
 unfolding ofBits
 returns c =
-    let a = c .before .before .before .before .before .before .before .before .before .before .before .before .before .before .before .before .args in
-    let l = productsOf (a .s) (a .t3) (a .n) in
-    let e = c .before .before .before .before .before .before .before .before .before .before .first-greatest .ensures ∙ ap (firstGreatest 0) (front-filled 80 l _ (a .n) (c .before .before .before .before .before .before .before .before .before .before .before .before .products .ensures) (length-products (a .s) (a .t3) (a .n))) in
-    c .before .before .put .ensures ∙ nearest-set (a .s) (now (a .slots)) (a .t3) (a .n) _ _ e (omega (arith, c .before .before .before .before .before .before .before .before .before .before .before .before .before .before .before .before .pre)) (c .before .before .before .before .before .if1 .taken)
+    let s = c .before .before .before .before .before .before .before .before .before .before .before .before .before .before in
+    let a = s .args in
+    c .before .before .put .ensures
+    ∙ nearest-set (a .s) (now (a .slots)) (a .t3) (a .n) _ _ (c .before .before .before .before .before .before .before .before .before .before .nearest-point .ensures) (omega (arith, s .pre)) (c .before .before .before .before .before .if1 .taken)
     ∙ ap (nearestIn (a .s) (now (a .slots)) (a .t3) (a .n)) (c .before .before .before .before .before .before .before .before .zero .ensures)
 
 same-length-2 : tie.Need-same-length-2
@@ -48,20 +41,17 @@ same-length-2 c = search needs
 
 returns-2 : tie.Need-returns-2
 returns-2 c =
-    let a = c .before .before .before .before .before .before .before .before .before .before .before .args in
-    let l = productsOf (a .s) (a .t3) (a .n) in
-    let e = c .before .before .before .before .before .first-greatest .ensures ∙ ap (firstGreatest 0) (front-filled 80 l _ (a .n) (c .before .before .before .before .before .before .before .products .ensures) (length-products (a .s) (a .t3) (a .n))) in
-    nearest-none (a .s) (now (a .slots)) (a .t3) (a .n) _ _ e (omega (arith, c .before .before .before .before .before .before .before .before .before .before .before .pre)) (c .if1 .left)
+    let s = c .before .before .before .before .before .before .before .before .before in
+    let a = s .args in
+    nearest-none (a .s) (now (a .slots)) (a .t3) (a .n) _ _ (c .before .before .before .before .before .nearest-point .ensures) (omega (arith, s .pre)) (c .if1 .left)
     ∙ ap (nearestIn (a .s) (now (a .slots)) (a .t3) (a .n)) (c .before .before .before .zero .ensures)
 
 pub nearest-spec : {M : Type 1} → statement M
 nearest-spec =
     tie.close
     (tie.spec
-    slice-aggregate-products
-    products-requires
-    slice-aggregate-first-greatest
-    first-greatest-requires
+    slice-aggregate-nearest-point
+    nearest-point-requires
     zero-requires
     shared-slice-read-put
     put-requires

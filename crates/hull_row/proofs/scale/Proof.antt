@@ -3,7 +3,7 @@ use mathlib.Core.Path.{sym, ap, _∙_}
 use denote.Ref.{now}
 use lib.Ieee.{ofBits, binary32, div, lt}
 use Rattle.ieee.specs.Values.{1·0}
-use Rattle.ieee.specs.Root.{sqrtOf}
+use Rattle.root.specs.Root.{sqrtOf}
 use Rattle.planar_row.specs.PlanarRow.{leastPower}
 use Rattle.hull_row.proofs.Places.{scaled-yes, scaled-no}
 use borrow.Author.Needs.{needs}

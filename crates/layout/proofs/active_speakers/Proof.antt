@@ -1,32 +1,27 @@
 -- `layout::active_speakers` meets its contract. The loop's invariant: the arrays hold the active speakers among the slots passed. Assumes nothing.
-use Prim.Native.Nat.{ℕ, _+_, _-_, _*_, _≤_, _<_}
-use mathlib.Core.Path.{_≡_, refl, sym, ap, _∙_}
-use mathlib.Core.List.{List}
+use Prim.Native.Nat.{ℕ, _+_, _-_, _≤_}
+use mathlib.Core.Path.{_≡_, sym, ap, _∙_}
 use native.Mathlib.Omega.{arith}
-use borrow.Author.Needs.{needs}
 use denote.Ref.{now}
-use lib.Ieee.{Float, ofBits}
-use lib.ListN.{length}
-use Rattle.lists.specs.Lists.{range, collect}
+use Rattle.lists.specs.Lists.{from, range, collect}
 use Rattle.lists.proofs.Collect.{length-collect}
-use Rattle.lists.proofs.Ranges.{length-range, range-none}
-use Rattle.vector.specs.Speakers.{Speaker}
+use Rattle.lists.proofs.Ranges.{length-range}
 use Rattle.layout.specs.Layout.{speakerAt}
 use Rattle.layout.specs.Arrays.{heldIn, activeIn, nextOf}
-use Rattle.layout.specs.declared.Active.{Active}
-use Rattle.layout.proofs.Speakers.{active-three, three, every-collect, collect-range, next-active, none-active, counted}
+use Rattle.layout.specs.Arrays.{Active}
+use Rattle.layout.proofs.Speakers.{active-three, three, every-collect, collect-range, next-active, counted}
 use Rattle.layout.proofs.active_speakers.Statement.{statement}
 use Rattle.layout.proofs.active_speakers.Tie as tie
 
 abbrev Inv-loop : tie.InvT-loop
-Inv-loop positions lfe outputs out₀ dir₀ n₀ i₀ out dir n i = (i ≤ outputs) × (heldIn out dir n ≡ activeIn (collect (speakerAt positions lfe) (range i))) × (n ≤ i)
+Inv-loop out₀ dir₀ positions lfe outputs n₀ i₀ out dir n i = (i ≤ outputs) × (heldIn out dir n ≡ activeIn (collect (speakerAt positions lfe) (range i))) × (n ≤ i)
 
 abbrev μ-loop : tie.MeasureT-loop
-μ-loop positions lfe outputs out₀ dir₀ n₀ i₀ out dir n i = outputs - i
+μ-loop out₀ dir₀ positions lfe outputs n₀ i₀ out dir n i = outputs - i
 
 loop-holds : tie.Need-loop-holds Inv-loop μ-loop
-unfolding ofBits
-loop-holds c = (omega arith, none-active (now (c .before .before .args .positions)) (now (c .before .before .args .lfe)), omega arith)
+unfolding range from collect
+loop-holds c = (omega arith, c .before .before .pre .2, omega arith)
 
 next-requires : tie.Need-next-requires Inv-loop μ-loop
 next-requires c κs = (omega arith, omega arith, omega arith)

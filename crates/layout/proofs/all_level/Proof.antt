@@ -2,17 +2,18 @@
 use Prim.Native.Nat.{ℕ, _+_, _-_, _*_, _≤_, _<_}
 use mathlib.Core.Path.{_≡_, refl, sym, ap, ap₂, _∙_}
 use mathlib.Core.Bool.{Bool, true, false, _&&_}
-use mathlib.Core.List.{List, map}
+use mathlib.Core.List.{List}
 use native.Mathlib.Omega.{arith}
 use borrow.Author.Needs.{needs}
 use denote.Ref.{now}
-use lib.Ieee.{Float, nan, le}
-use lib.ListN.{length, getD}
+use lib.Ieee.{Float, nan, le, binary64, round, add, sub, neg, mul, div, rem, ofInt, ofBits}
+use lib.ListN.{getD}
 use Rattle.lists.specs.Lists.{every, part, range, between}
 use Rattle.lists.proofs.Parts.{getD-part}
 use Rattle.lists.proofs.Ranges.{between-cons, between-none, range-between}
 use Rattle.ieee.specs.Values.{abs}
-use Rattle.trig.specs.Sine.{sinOf}
+use Rattle.trig.specs.Series.{coefficients, sumOf, factorial}
+use Rattle.trig.specs.Sine.{S, C, sineCoefficients, cosineCoefficients, remainder, quotient, nearestWhole, quarter, reduced, mod4, sineBy, sinOf}
 use Rattle.vector.specs.Vector.{pointsIn}
 use Rattle.layout.specs.Layout.{levelAt, planarMaxElevation}
 use Rattle.layout.proofs.Speakers.{every-map}
@@ -36,26 +37,27 @@ every-over : (f : ℕ → Bool) (i n : ℕ) → n ≤ i → every f (between i n
 unfolding every
 every-over f i n h = rw (between-none i n h)
 
+-- PLANAR_MAX_HEIGHT is the sine of PLANAR_MAX_ELEVATION, by computation
+abbrev maxHeight : Float
+maxHeight = ofBits binary64 0x3fb6_5207_497a_f47e
+
+height-origin : sinOf planarMaxElevation ≡ maxHeight
+unfolding sinOf sineBy mod4 reduced quarter nearestWhole quotient remainder S C sineCoefficients cosineCoefficients coefficients factorial sumOf round add sub neg mul div rem ofInt ofBits
+height-origin = refl
+
 -- the test as the code makes it
-level-here : (dir : List Float) (i : ℕ) (most height : Float) → most ≡ sinOf planarMaxElevation → height ≡ abs (getD dir (i * 3 + 1) nan)
-    → levelIn dir i ≡ le height most
+level-here : (dir : List Float) (i : ℕ) {height : Float} → height ≡ abs (getD dir (i * 3 + 1) nan) → levelIn dir i ≡ le height maxHeight
 unfolding levelAt
-level-here dir i most height e h = ap₂ le (ap abs (getD-part 3 dir i 1 nan (omega arith)) ∙ sym h) (sym e)
+level-here dir i h = ap₂ le (ap abs (getD-part 3 dir i 1 nan (omega arith)) ∙ sym h) height-origin
 
 abbrev Inv-loop : tie.InvT-loop
-Inv-loop dir n most i₀ i = (i ≤ n) × (most ≡ sinOf planarMaxElevation) × (every (levelIn dir) (between i n) ≡ every (levelIn dir) (between 0 n))
+Inv-loop dir n i₀ i = (i ≤ n) × (every (levelIn dir) (between i n) ≡ every (levelIn dir) (between 0 n))
 
 abbrev μ-loop : tie.MeasureT-loop
-μ-loop dir n most i₀ i = n - i
-
-widen-requires : tie.Need-widen-requires Inv-loop μ-loop
-widen-requires c κs = search needs
-
-sin-requires : tie.Need-sin-requires Inv-loop μ-loop
-sin-requires c κs = search needs
+μ-loop dir n i₀ i = n - i
 
 loop-holds : tie.Need-loop-holds Inv-loop μ-loop
-loop-holds c = (omega arith, c .sin .ensures ∙ ap sinOf (c .before .widen .ensures), refl)
+loop-holds c = (omega arith, refl)
 
 mul-abs64 : tie.Need-mul-abs64 Inv-loop μ-loop
 mul-abs64 c = omega arith
@@ -80,23 +82,23 @@ loop-less c = omega arith
 
 loop-again : tie.Need-loop-again Inv-loop μ-loop
 loop-again c =
-    let a = c .before .before .before .before .before .before .before .args in
+    let a = c .before .before .before .before .before .args in
     let l = c .before .before .before .before .loop in
-    let e : levelIn (now (a .dir)) (l .i) ≡ true = level-here (now (a .dir)) (l .i) _ _ (l .inv .1) (c .before .abs64 .ensures) ∙ c .if1 .taken in
-    (omega arith, l .inv .1, sym (every-cons (levelIn (now (a .dir))) (l .i) (a .n) (omega arith) ∙ rw e refl) ∙ l .inv .2)
+    let e : levelIn (now (a .dir)) (l .i) ≡ true = level-here (now (a .dir)) (l .i) (c .before .abs64 .ensures) ∙ c .if1 .taken in
+    (omega arith, sym (every-cons (levelIn (now (a .dir))) (l .i) (a .n) (omega arith) ∙ rw e refl) ∙ l .inv .1)
 
 returns : tie.Need-returns Inv-loop μ-loop
 returns c =
-    let a = c .before .before .before .before .before .before .before .args in
+    let a = c .before .before .before .before .before .args in
     let l = c .before .before .before .before .loop in
-    let e : levelIn (now (a .dir)) (l .i) ≡ false = level-here (now (a .dir)) (l .i) _ _ (l .inv .1) (c .before .abs64 .ensures) ∙ c .if1 .left in
-    sym (every-cons (levelIn (now (a .dir))) (l .i) (a .n) (omega arith) ∙ rw e refl) ∙ l .inv .2 ∙ sym (points-level (a .n) (now (a .dir)))
+    let e : levelIn (now (a .dir)) (l .i) ≡ false = level-here (now (a .dir)) (l .i) (c .before .abs64 .ensures) ∙ c .if1 .left in
+    sym (every-cons (levelIn (now (a .dir))) (l .i) (a .n) (omega arith) ∙ rw e refl) ∙ l .inv .1 ∙ sym (points-level (a .n) (now (a .dir)))
 
 returns-2 : tie.Need-returns-2 Inv-loop μ-loop
 returns-2 c =
-    let a = c .before .before .before .before .args in
+    let a = c .before .before .args in
     let l = c .before .loop in
-    sym (every-over (levelIn (now (a .dir))) (l .i) (a .n) (omega arith)) ∙ l .inv .2 ∙ sym (points-level (a .n) (now (a .dir)))
+    sym (every-over (levelIn (now (a .dir))) (l .i) (a .n) (omega arith)) ∙ l .inv .1 ∙ sym (points-level (a .n) (now (a .dir)))
 
 pub all-level-spec : {M : Type 1} → statement M
 all-level-spec =
@@ -104,8 +106,6 @@ all-level-spec =
     (tie.spec
     Inv-loop
     μ-loop
-    widen-requires
-    sin-requires
     loop-holds
     mul-abs64
     add-abs64

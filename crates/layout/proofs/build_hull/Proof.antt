@@ -1,105 +1,104 @@
--- `layout::build_hull` meets its contract: refused where `close` says that a list was too long; else a blank record with the hull's parts, each as the definition has it. Assumes nothing.
-use Prim.Native.Nat.{_≤_}
-use mathlib.Core.Path.{_≡_, refl, sym, ap, _∙_}
-use mathlib.Core.Bool.{true, false}
+-- `layout::build_hull` meets its contract: refused where `close` says that a list was too long; else the hull's parts, each as the definition has it. Assumes nothing.
+use mathlib.Core.Path.{sym, ap, _∙_}
 use native.Mathlib.Omega.{arith}
 use borrow.Author.Needs.{needs}
+use denote.Ref.{now}
+use Rattle.lists.specs.Lists.{from, range, collect, filled}
+use Rattle.vector.specs.Speakers.{speakersIn}
+use Rattle.planar.specs.declared.Planar.{Planar}
+use Rattle.planar.specs.Planar.{pairsOf}
+use Rattle.planar.specs.Arrays.{planarIn}
+use Rattle.panner.specs.Shape.{silent}
+use Rattle.panner.specs.Panner.{noPanner}
 use Rattle.layout.specs.Layout.{buildHullOf}
-use Rattle.layout.specs.Arrays.{speakersOf}
+use Rattle.layout.specs.Answers.{refusedBy}
+use Rattle.layout.specs.Arrays.{Active, heldIn, speakersOf}
 use Rattle.layout.proofs.Building.{Made, over-is, made, imag-few, numbered, num-nbrs-are, imag-nbrs-are, imag-length, narrowed-are, hull-refused, hull-accepted}
-use Rattle.layout.proofs.Laid.{laid-hull}
-use Rattle.layout.proofs.Speakers.{count-is, slots-count, out-is}
+use Rattle.layout.proofs.Laid.{no-ring, silent-parts, laid-hull}
+use Rattle.layout.proofs.Speakers.{count-is, slots-count, out-is, dir-long}
 use Rattle.layout.proofs.build_hull.Statement.{statement}
 use Rattle.layout.proofs.build_hull.Tie as tie
-use Rattle.layout.proofs.build_hull.Reads as reads
-use Rattle.layout.proofs.build_hull.Lts as lts
-use Rattle.closing.proofs.close.Reads as close-reads
-use Rattle.layout.proofs.blank.Reads as blank-reads
-use Rattle.layout.proofs.narrowed.Reads as narrowed-reads
-use Rattle.layout.proofs.refused.Reads as refused-reads
-use Rattle.neighbours.proofs.neighbours.Reads as neighbours-reads
+
+-- the arrays that are lent
+abbrev lent : tie.Start → Active
+lent s = heldIn (now (s .args .out)) (now (s .args .dir)) (s .args .n)
+
+-- what `close` made where no list was too long
+made-here : (w : tie.Else1) → Made (speakersOf (lent (w .before .before))) (w .before .close .result)
+made-here w = made (lent (w .before .before)) (w .before .close .result) (w .before .close .ensures) (w .if1 .left)
 
 close-requires : tie.Need-close-requires
 close-requires c κs = search needs
 
-refused-requires : tie.Need-refused-requires
-refused-requires c κs = search needs
+without-hull-requires : tie.Need-without-hull-requires
+without-hull-requires c κs = no-ring (dir-long (lent (c .before .before .before)) (c .before .before .before .pre))
 
 returns : tie.Need-returns
+unfolding refusedBy noPanner
 returns c =
-    let s = c .before .before .before .before .before .before in
-    let a = s .args .act in
-    c .refused .ensures
-    ∙ hull-refused (s .args .outputs) (speakersOf a) (sym (over-is a (c .before .before .close .result) (c .before .before .close .ensures)) ∙ c .before .if1 .taken)
+    let s = c .before .before .before .before in
+    c .without-hull .ensures silent (silent-parts _ _)
+    ∙ hull-refused (s .args .outputs) (speakersOf (lent s)) (sym (over-is (lent s) (c .before .before .before .close .result) (c .before .before .before .close .ensures)) ∙ c .before .before .if1 .taken)
 
 add-neighbours : tie.Need-add-neighbours
 add-neighbours c =
-    let s = c .before .before .before .before .before .before .before .before .before .before in
-    let a = s .args .act in
-    let r = c .before .before .before .before .before .before .close .result in
-    let m = made a r (c .before .before .before .before .before .before .close .ensures) (c .before .before .before .before .before .if1 .left) in
-    omega (arith, imag-few a (s .pre) r m, s .pre .few)
+    let w = c .before .before .before .before in
+    let s = w .before .before in
+    omega (arith, imag-few (lent s) (s .pre) _ (made-here w), s .pre .few)
 
 neighbours-requires : tie.Need-neighbours-requires
 neighbours-requires c κs =
-    let s = c .before .before .before .before .before .before .before .before .before .before in
-    let a = s .args .act in
-    let r = c .before .before .before .before .before .before .close .result in
-    let m = made a r (c .before .before .before .before .before .before .close .ensures) (c .before .before .before .before .before .if1 .left) in
-    numbered a (s .pre) r m
+    let w = c .before .before .before .before in
+    let s = w .before .before in
+    numbered (lent s) (s .pre) _ (made-here w)
 
 narrowed-requires : tie.Need-narrowed-requires
-narrowed-requires c κs = search needs
+narrowed-requires c κs = let s = c .before .before .before .before .before .before .before .before .before .before in (s .pre .few, dir-long (lent s) (s .pre))
 
-blank-requires : tie.Need-blank-requires
-blank-requires c κs = search needs
+build-planar-requires : tie.Need-build-planar-requires
+build-planar-requires c κs = let s = c .before .before .before .before .before .before .before .before .before .before .before in (omega arith, dir-long (lent s) (s .pre))
 
-cast-p : tie.Need-cast-p
-cast-p c = omega (arith, c .before .before .before .before .before .before .before .before .before .before .before .before .before .before .before .pre .few)
+cast-t26 : tie.Need-cast-t26
+cast-t26 c = search needs
 
-cast-p-2 : tie.Need-cast-p-2
-cast-p-2 c =
-    let s = c .before .before .before .before .before .before .before .before .before .before .before .before .before .before .before in
-    let a = s .args .act in
-    let r = c .before .before .before .before .before .before .before .before .before .before .before .close .result in
-    let m = made a r (c .before .before .before .before .before .before .before .before .before .before .before .close .ensures) (c .before .before .before .before .before .before .before .before .before .before .if1 .left) in
-    omega (arith, m .few, m .count)
+cast-t27 : tie.Need-cast-t27
+cast-t27 c = let m = made-here (c .before .before .before .before .before .before .before .before .before .before .before) in omega (arith, m .few, m .count)
 
-cast-p-3 : tie.Need-cast-p-3
-cast-p-3 c =
-    let s = c .before .before .before .before .before .before .before .before .before .before .before .before .before .before .before in
-    let a = s .args .act in
-    let r = c .before .before .before .before .before .before .before .before .before .before .before .close .result in
-    let m = made a r (c .before .before .before .before .before .before .before .before .before .before .before .close .ensures) (c .before .before .before .before .before .before .before .before .before .before .if1 .left) in
-    omega (arith, imag-few a (s .pre) r m)
+cast-t29 : tie.Need-cast-t29
+cast-t29 c =
+    let w = c .before .before .before .before .before .before .before .before .before .before .before in
+    let s = w .before .before in
+    omega (arith, imag-few (lent s) (s .pre) _ (made-here w))
 
 returns-2 : tie.Need-returns-2
-unfolding buildHullOf
+unfolding buildHullOf planarIn speakersIn pairsOf filled collect range from
 returns-2 c =
-    let s = c .before .before .before .before .before .before .before .before .before .before .before .before .before .before .before in
-    let a = s .args .act in
-    let r = c .before .before .before .before .before .before .before .before .before .before .before .close .result in
-    let m = made a r (c .before .before .before .before .before .before .before .before .before .before .before .close .ensures) (c .before .before .before .before .before .before .before .before .before .before .if1 .left) in
+    let w = c .before .before .before .before .before .before .before .before .before .before .before in
+    let s = w .before .before in
+    let a = lent s in
     let act = speakersOf a in
-    let found = c .before .before .before .before .neighbours in
+    let m = made-here w in
+    let r = w .before .close .result in
+    let found = c .before .before .before .before .before .before .neighbours in
+    let imag = imag-length a (s .pre) r m in
     hull-accepted (s .args .outputs) act (m .fits)
-    (laid-hull (s .args .outputs) (buildHullOf act) (c .blank .ensures) (sym (slots-count act ∙ count-is a)) (out-is a (s .pre))
-    (c .before .narrowed .ensures ∙ narrowed-are a (s .pre)) (m .count) (m .idx) (m .inv) (imag-length a (s .pre) r m)
+    (laid-hull (s .args .outputs) (buildHullOf act) (ap (λ (q : Planar). q .pairs) (c .before .build-planar .ensures)) (sym (slots-count act ∙ count-is a))
+    (out-is a (s .pre)) (c .before .before .narrowed .ensures ∙ narrowed-are a (s .pre)) (m .count) (m .idx) (m .inv) imag
     (num-nbrs-are a (s .pre) r m (found .result) (found .ensures)) (imag-nbrs-are a (s .pre) r m (found .result) (found .ensures)))
-    (imag-length a (s .pre) r m)
+    imag
 
 pub build-hull-spec : {M : Type 1} → statement M
 build-hull-spec =
     tie.close
     (tie.spec
     close-requires
-    refused-requires
+    without-hull-requires
     returns
     add-neighbours
     neighbours-requires
     narrowed-requires
-    blank-requires
-    cast-p
-    cast-p-2
-    cast-p-3
+    build-planar-requires
+    cast-t26
+    cast-t27
+    cast-t29
     returns-2)

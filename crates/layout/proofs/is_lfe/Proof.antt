@@ -12,8 +12,6 @@ use Rattle.lists.specs.Lists.{any, member}
 use Rattle.lists.proofs.Tests.{any-yes, any-no, any-end}
 use Rattle.layout.proofs.is_lfe.Statement.{statement}
 use Rattle.layout.proofs.is_lfe.Tie as tie
-use Rattle.layout.proofs.is_lfe.Reads as reads
-use Rattle.layout.proofs.is_lfe.Lts as lts
 
 abbrev Inv-loop : tie.InvT-loop
 Inv-loop lfe i k₀ k = (k ≤ length lfe) × (member i (drop k (take (length lfe) lfe)) ≡ member i (take (length lfe) lfe))

@@ -1,23 +1,21 @@
 -- `layout::narrowed` meets its contract. The loop's invariant: the numbers passed stand narrowed, +0 after them. Assumes nothing.
-use Prim.Native.Nat.{ℕ, suc, _+_, _-_, _≤_, _<_}
+use Prim.Native.Nat.{ℕ, _+_, _-_, _*_, _≤_, _<_}
 use mathlib.Core.Path.{_≡_, refl, sym, ap, _∙_}
 use mathlib.Core.List.{List, [], _∷_, _++_, map}
 use native.Mathlib.Numerals.{add-one}
 use native.Mathlib.Omega.{arith}
 use borrow.Author.Needs.{needs}
+use denote.Ref.{now}
 use lib.Ieee.{Float, nan, ofBits}
 use lib.ListN.{length, getD, take, set, replicate, length-map}
-use lib.Seq.{take-suc, take-all, length-take-le}
+use lib.Seq.{take-suc, length-take-le}
 use Rattle.lists.specs.Lists.{filled}
 use Rattle.lists.proofs.Collect.{map-snoc}
-use Rattle.lists.proofs.Filled.{set-filled-at, filled-all, filled-none}
+use Rattle.lists.proofs.Filled.{set-filled-at}
 use Rattle.ieee.specs.Values.{+0}
 use Rattle.ieee.specs.Narrow.{narrowOf}
 use Rattle.layout.proofs.narrowed.Statement.{statement}
 use Rattle.layout.proofs.narrowed.Tie as tie
-use Rattle.layout.proofs.narrowed.Reads as reads
-use Rattle.layout.proofs.narrowed.Lts as lts
-use Rattle.ieee.proofs.narrow.Reads as narrow-reads
 
 -- none yet
 narrowed-none : (dir : List Float) → replicate 120 +0 ≡ filled 120 +0 (map narrowOf (take 0 dir))
@@ -36,20 +34,23 @@ narrowed-more dir i r v h len e g =
     (sym (ap (λ (k : ℕ). map narrowOf (take k dir)) (add-one i) ∙ ap (map narrowOf) (take-suc dir i nan (omega arith)) ∙ map-snoc narrowOf (take i dir) (getD dir i nan)))
 
 abbrev Inv-loop : tie.InvT-loop
-Inv-loop dir r₀ i₀ r i = (i ≤ 120) × (r ≡ filled 120 +0 (map narrowOf (take i dir)))
+Inv-loop dir n r₀ i₀ r i = (i ≤ n * 3) × (r ≡ filled 120 +0 (map narrowOf (take i dir)))
 
 abbrev μ-loop : tie.MeasureT-loop
-μ-loop dir r₀ i₀ r i = 120 - i
+μ-loop dir n r₀ i₀ r i = n * 3 - i
 
 loop-holds : tie.Need-loop-holds Inv-loop μ-loop
 unfolding ofBits
-loop-holds c = (omega arith, narrowed-none (c .args .t1))
+loop-holds c = (omega arith, narrowed-none (now (c .args .dir)))
+
+mul-loop : tie.Need-mul-loop Inv-loop μ-loop
+mul-loop c = omega arith
 
 mul-narrow : tie.Need-mul-narrow Inv-loop μ-loop
 mul-narrow c = omega arith
 
-array-read-narrow : tie.Need-array-read-narrow Inv-loop μ-loop
-array-read-narrow c = omega arith
+element-copy-out-narrow : tie.Need-element-copy-out-narrow Inv-loop μ-loop
+element-copy-out-narrow c = omega arith
 
 narrow-requires : tie.Need-narrow-requires Inv-loop μ-loop
 narrow-requires c κs = search needs
@@ -68,19 +69,15 @@ loop-less c = omega arith
 
 loop-again : tie.Need-loop-again Inv-loop μ-loop
 loop-again c =
-    let a = c .before .before .before .args in
-    let l = c .before .before .loop in
-    let len : length (a .t1) ≡ 120 = c .before .before .before .good .0 .1 .0 .1 in
-    (omega arith, narrowed-more (a .t1) (l .i) _ _ (omega arith) (omega arith) (l .inv .1) (c .narrow .ensures))
+    let s = c .before .before .before .before in
+    let l = c .before .before .before .loop in
+    (omega arith, narrowed-more (now (s .args .dir)) (l .i) _ _ (omega arith) (s .pre .1) (l .inv .1) (c .narrow .ensures))
 
 returns : tie.Need-returns Inv-loop μ-loop
 returns c =
-    let a = c .before .before .args in
     let l = c .before .loop in
-    let len : length (a .t1) ≡ 120 = c .before .before .good .0 .1 .0 .1 in
-    l .inv .1
-    ∙ ap (λ (m : List Float). filled 120 +0 (map narrowOf m)) (take-all (l .i) (a .t1) (omega arith))
-    ∙ filled-all 120 +0 (map narrowOf (a .t1)) (omega (arith, length-map (a .t1) narrowOf))
+    let e : l .i ≡ c .before .before .args .n * 3 = omega arith in
+    l .inv .1 ∙ ap (λ (k : ℕ). filled 120 +0 (map narrowOf (take k (now (c .before .before .args .dir))))) e
 
 pub narrowed-spec : {M : Type 1} → statement M
 narrowed-spec =
@@ -89,8 +86,9 @@ narrowed-spec =
     Inv-loop
     μ-loop
     loop-holds
+    mul-loop
     mul-narrow
-    array-read-narrow
+    element-copy-out-narrow
     narrow-requires
     mul-r
     array-write-r

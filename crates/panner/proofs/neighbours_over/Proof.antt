@@ -11,7 +11,8 @@ use lib.Dec.{leb}
 use lib.ListN.{take, drop, getD}
 use Rattle.lists.specs.Lists.{any, part, range, between}
 use Rattle.lists.proofs.Ranges.{between-cons, between-none, range-between}
-use Rattle.panner.proofs.Bounds.{any-flatMap, every-getD, used-parts-below}
+use Rattle.lists.proofs.Tests.{any-flatMap, every-getD}
+use Rattle.panner.proofs.Bounds.{used-parts-below}
 use Rattle.panner.proofs.neighbours_over.Statement.{statement}
 use Rattle.panner.proofs.neighbours_over.Tie as tie
 

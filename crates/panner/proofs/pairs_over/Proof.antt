@@ -1,7 +1,7 @@
 -- `panner::pairs_over` meets its contract: where there are at most eight pairs, the first eight hold them all. Assumes nothing.
-use Rattle.panner.proofs.Front.{front}
+use Rattle.lists.proofs.Ranges.{take-front}
 use Rattle.planar.specs.declared.PlanarPair.{PlanarPair}
-use Rattle.lists.specs.Lists.{any}
+use Rattle.lists.specs.Lists.{from, range, any}
 use lib.Dec.{leb}
 use native.Mathlib.Omega.{arith}
 use mathlib.Core.List.{List, [], _∷_, flatMap}
@@ -38,10 +38,12 @@ few-over-requires : tie.Need-few-over-requires
 few-over-requires c κs = search needs
 
 returns : tie.Need-returns
+unfolding range from
 returns c =
-    let a = c .before .before .before .before .before .before .before .before .before .before .args in
+    let i = c .before .before .before .before .before .before .before .before .before in
+    let a = i .before .args in
     c .few-over .ensures
-    ∙ ap (λ (l : List PlanarPair). any (λ x. leb (a .bound) x) (flatMap (λ p. p .a ∷ p .b ∷ []) l)) (front _ (a .t1) (a .n) (c .before .before .before .before .before .before .before .before .before .if1 .taken) (omega (arith, c .before .before .before .before .before .before .before .before .before .before .good .0 .1 .0 .1)))
+    ∙ ap (λ (l : List PlanarPair). any (λ x. leb (a .bound) x) (flatMap (λ p. p .a ∷ p .b ∷ []) l)) (take-front (a .t1) _ 8 (a .n) (i .if1 .taken) (omega (arith, i .before .good .0 .1 .0 .1)))
 
 many-over-requires : tie.Need-many-over-requires
 many-over-requires c κs = search needs

@@ -1,33 +1,24 @@
 -- `planar_row::chosen_of_many` meets its contract. The invariant: what is found from place i on is what is found of all pairs. Assumes nothing.
 use Prim.Native.Nat.{_≤_, _-_}
-use mathlib.Core.Path.{_≡_, refl, sym, _∙_}
+use mathlib.Core.Path.{sym, _∙_}
 use native.Mathlib.Omega.{arith}
 use borrow.Author.Needs.{needs}
-use lib.Ieee.{nan}
-use lib.ListN.{length, take}
-use Rattle.lists.specs.Lists.{last}
-use Rattle.planar.specs.Planar.{noPair}
-use Rattle.planar.specs.declared.PlanarPair.{PlanarPair}
-use Rattle.planar.specs.declared.Law.the-variants.{Inverse}
-use Rattle.planar_row.specs.PlanarRow.{contains, chosen}
-use Rattle.lists.proofs.Search.{first-here, first-on}
-use Rattle.planar_row.proofs.Branches.{foundFrom, found-none}
+use lib.ListN.{length}
+use Rattle.planar_row.proofs.Branches.{Found, found-start, found-here, found-on, found-last}
 use Rattle.planar_row.proofs.chosen_of_many.Statement.{statement}
 use Rattle.planar_row.proofs.chosen_of_many.Tie as tie
 
--- what the machine reads past the end of an array of pairs
-abbrev past : PlanarPair
-past = record { start = nan; gap = nan; a = 0; b = 0; law = Inverse nan nan nan nan }
-
 abbrev Inv-loop : tie.InvT-loop
-Inv-loop n az pairs i₀ i = (i ≤ n) × (foundFrom az pairs n i ≡ chosen az (take n pairs))
+Inv-loop n az pairs i₀ i = (i ≤ n) × Found az pairs n i
 
 abbrev μ-loop : tie.MeasureT-loop
 μ-loop n az pairs i₀ i = n - i
 
+fits : (s : tie.Start Inv-loop μ-loop) → s .args .n ≤ length (s .args .t1)
+fits s = omega (arith, s .good .0 .1 .0 .1)
+
 loop-holds : tie.Need-loop-holds Inv-loop μ-loop
-unfolding chosen
-loop-holds c = (omega arith, refl)
+loop-holds c = let a = c .args in (omega arith, found-start (a .az) (a .t1) (a .n))
 
 mul-p : tie.Need-mul-p Inv-loop μ-loop
 mul-p c = omega arith
@@ -41,11 +32,8 @@ is-inside-requires c κs = search needs
 returns : tie.Need-returns Inv-loop μ-loop
 returns c =
     let l = c .before .before .before .before in
-    let s = l .before in
-    let long : length (s .args .t1) ≡ 40 = s .good .0 .1 .0 .1 in
-    sym (first-here (contains (s .args .az)) (s .args .t1) (s .args .n) (l .loop .i) past (omega arith) (omega arith) (last (take (s .args .n) (s .args .t1)) noPair)
-    (sym (c .before .is-inside .ensures) ∙ c .if1 .taken))
-    ∙ l .loop .inv .1
+    let a = l .before .args in
+    found-here (a .az) (a .t1) (a .n) (l .loop .i) (fits (l .before)) (l .loop .inv .1) (omega arith) (sym (c .before .is-inside .ensures) ∙ c .if1 .taken)
 
 add-i : tie.Need-add-i Inv-loop μ-loop
 add-i c = omega arith
@@ -56,13 +44,8 @@ loop-less c = omega arith
 loop-again : tie.Need-loop-again Inv-loop μ-loop
 loop-again c =
     let l = c .before .before .before .before in
-    let s = l .before in
-    let long : length (s .args .t1) ≡ 40 = s .good .0 .1 .0 .1 in (
-      omega arith,
-      sym (first-on (contains (s .args .az)) (s .args .t1) (s .args .n) (l .loop .i) past (omega arith) (omega arith) (last (take (s .args .n) (s .args .t1)) noPair)
-          (sym (c .before .is-inside .ensures) ∙ c .if1 .left))
-          ∙ l .loop .inv .1,
-    )
+    let a = l .before .args in
+    (omega arith, found-on (a .az) (a .t1) (a .n) (l .loop .i) (fits (l .before)) (l .loop .inv .1) (omega arith) (sym (c .before .is-inside .ensures) ∙ c .if1 .left))
 
 sub-result : tie.Need-sub-result Inv-loop μ-loop
 sub-result c = omega arith
@@ -76,9 +59,8 @@ array-copy-out-result c = omega arith
 returns-2 : tie.Need-returns-2 Inv-loop μ-loop
 returns-2 c =
     let l = c .before .before in
-    let s = l .before in
-    let long : length (s .args .t1) ≡ 40 = s .good .0 .1 .0 .1 in
-    sym (found-none (s .args .az) (s .args .t1) (s .args .n) (l .loop .i) past (omega arith) (omega arith) (c .before .loop-test .left)) ∙ l .loop .inv .1
+    let a = l .before .args in
+    found-last (a .az) (a .t1) (a .n) (l .loop .i) (fits (l .before)) (l .loop .inv .1) (omega arith) (c .before .loop-test .left)
 
 pub chosen-of-many-spec : {M : Type 1} → statement M
 chosen-of-many-spec =

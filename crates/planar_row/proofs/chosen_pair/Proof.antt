@@ -1,5 +1,6 @@
 -- `planar_row::chosen_pair` meets its contract: where there are at most eight pairs, the first eight hold them all. Assumes nothing.
-use Rattle.planar_row.proofs.Front.{front}
+use Rattle.lists.specs.Lists.{from, range}
+use Rattle.lists.proofs.Ranges.{take-front}
 use Rattle.planar_row.specs.PlanarRow.{chosen}
 use native.Mathlib.Omega.{arith}
 use mathlib.Core.Path.{ap, _∙_}
@@ -35,9 +36,11 @@ chosen-of-few-requires : tie.Need-chosen-of-few-requires
 chosen-of-few-requires c κs = search needs
 
 returns : tie.Need-returns
+unfolding range from
 returns c =
-    let a = c .before .before .before .before .before .before .before .before .before .before .args in
-    c .chosen-of-few .ensures ∙ ap (chosen (a .az)) (front _ (a .t1) (a .n) (c .before .before .before .before .before .before .before .before .before .if1 .taken) (omega (arith, c .before .before .before .before .before .before .before .before .before .before .good .0 .1 .0 .1)))
+    let i = c .before .before .before .before .before .before .before .before .before in
+    let a = i .before .args in
+    c .chosen-of-few .ensures ∙ ap (chosen (a .az)) (take-front (a .t1) _ 8 (a .n) (i .if1 .taken) (omega (arith, i .before .good .0 .1 .0 .1)))
 
 chosen-of-many-requires : tie.Need-chosen-of-many-requires
 chosen-of-many-requires c κs = search needs

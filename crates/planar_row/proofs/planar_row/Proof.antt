@@ -1,6 +1,6 @@
 -- `planar_row::planar_row` meets its contract: without pairs the zeros stay, and otherwise the row is that of the chosen pair. Assumes nothing.
 use Rattle.planar_row.proofs.Branches.{two-same, planar-silent, planar-sounds}
-use Rattle.planar_row.proofs.Rows.{none-taken, some-taken}
+use Rattle.lists.proofs.Tests.{none-taken, some-taken}
 use Rattle.planar_row.specs.PlanarRow.{Two, byLaw, pairRow}
 use Rattle.ieee.specs.Values.{+0}
 use lib.ListN.{length, take, replicate}

@@ -1,7 +1,7 @@
 -- `planar_row::spread_gain` meets its contract: the operations are the definition's, in its order. Assumes nothing.
 use borrow.Author.Needs.{needs}
 use lib.Ieee.{ofBits}
-use Rattle.planar_row.specs.Spread.{spreadGain}
+use Rattle.planar_row.specs.PlanarRow.{spreadGain}
 use Rattle.planar_row.proofs.spread_gain.Statement.{statement}
 use Rattle.planar_row.proofs.spread_gain.Tie as tie
 

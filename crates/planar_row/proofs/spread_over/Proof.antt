@@ -8,7 +8,7 @@ use borrow.Author.Needs.{needs}
 use lib.ListN.{length, take}
 use lib.Ieee.{Float, binary32, div, lt, ofBits}
 use Rattle.ieee.specs.Values.{+0}
-use Rattle.planar_row.specs.PlanarRow.{spreadAt, spread}
+use Rattle.planar_row.specs.PlanarRow.{spreadAt}
 use Rattle.planar_row.proofs.Rows.{slots-more, spread-no, spread-nowhere, spread-first}
 use Rattle.planar_row.proofs.spread_over.Statement.{statement}
 use Rattle.planar_row.proofs.spread_over.Tie as tie

@@ -1,11 +1,6 @@
 -- `session::settle` meets its contract: the shared refusals, then what stands decides. Assumes nothing.
-use Prim.Native.Nat.{_≤_, _<_}
-use mathlib.Core.Path.{_≡_, refl, sym, _∙_}
-use Rattle.history.specs.Calls.{settle}
-use Rattle.history.specs.History.{depth}
-use Rattle.session.specs.Session.{standingCount, numberOf}
-use Rattle.session.proofs.Refusals.{source-low, count-low}
-use Rattle.session.proofs.Answers.{settle-refused, settle-done, settled-none}
+use Rattle.session.proofs.Refusals.{Passed, passed}
+use Rattle.session.proofs.Answers.{settle-refused, settle-done, settled-none, settled-as}
 use native.Mathlib.Omega.{arith}
 use borrow.Author.Needs.{needs}
 use Rattle.session.proofs.settle.Statement.{statement}
@@ -14,31 +9,45 @@ use Rattle.session.proofs.settle.Tie as tie
 refusal-requires : tie.Need-refusal-requires
 refusal-requires c κs = search needs
 
-passed : (c : tie.Else1) → numberOf (c .before .before .args .t1) (settle (c .before .before .args .source)) ≡ 0
-passed c = sym (c .before .refusal .ensures) ∙ c .if1 .left
-
-low : (c : tie.Else1) → c .before .before .args .source < 8
-low c = source-low _ _ (passed c)
-
-few : (c : tie.Else1) → standingCount (c .before .before .args .t1) (c .before .before .args .source) ≤ depth
-few c = count-low _ _ (passed c)
+went : (c : tie.Else1) → Passed (c .before .before .args .s) (c .before .before .args .source)
+went c = passed _ _ (c .before .refusal .ensures) (c .if1 .left)
 
 returns : tie.Need-returns
 returns c = settle-refused _ _ (c .before .refusal .ensures) (c .if1 .taken)
 
-element-copy-out-n : tie.Need-element-copy-out-n
-element-copy-out-n c = low c
+array-read-n : tie.Need-array-read-n
+array-read-n c = went (c .before) .low
 
-settled-requires : tie.Need-settled-requires
-settled-requires c κs = (low (c .before .before), c .if2 .taken, few (c .before .before), refl)
+sub-keep : tie.Need-sub-keep
+sub-keep c = search needs
+
+cast-keep : tie.Need-cast-keep
+cast-keep c = omega (arith, went (c .before .before .before) .few)
+
+keep-requires : tie.Need-keep-requires
+keep-requires c κs =
+    let w = went (c .before .before .before) in
+    (w .low, omega (arith, w .few))
+
+stood-requires : tie.Need-stood-requires
+stood-requires c κs = went (c .before .before .before .before) .low
 
 returns-2 : tie.Need-returns-2
-returns-2 c = settle-done _ _ (passed (c .before .before .before)) (c .settled .ensures)
+returns-2 c = settle-done _ _ (went (c .before .before .before .before .before) .number) (settled-as _ _ (λ z. omega (arith, c .before .before .before .if2 .taken)) (c .before .keep .ensures) (c .stood .ensures))
 
 returns-3 : tie.Need-returns-3
-returns-3 c = settle-done _ _ (passed (c .before .before)) (sym (settled-none _ _ (omega arith)))
+returns-3 c = settle-done _ _ (went (c .before .before) .number) (settled-none _ _ (omega arith))
 
 pub settle-spec : {M : Type 1} → statement M
 settle-spec =
     tie.close
-    (tie.spec refusal-requires returns element-copy-out-n settled-requires returns-2 returns-3)
+    (tie.spec
+    refusal-requires
+    returns
+    array-read-n
+    sub-keep
+    cast-keep
+    keep-requires
+    stood-requires
+    returns-2
+    returns-3)

@@ -1,12 +1,7 @@
 -- `session::take_back` meets its contract: the shared refusals, then 7, then the count and two zeros stored. Assumes nothing.
 use lib.Ieee.{ofBits}
-use Prim.Native.Nat.{_≤_, _<_}
-use mathlib.Core.Path.{_≡_, sym, _∙_}
-use Rattle.history.specs.Calls.{settle}
-use Rattle.history.specs.History.{depth}
-use Rattle.session.specs.Session.{standingCount, numberOf, takenBack}
-use Rattle.session.proofs.Refusals.{source-low, count-low}
-use Rattle.session.proofs.Answers.{take-refused, take-none, take-done}
+use Rattle.session.proofs.Refusals.{Passed, passed}
+use Rattle.session.proofs.Answers.{take-refused, take-none, take-done, taken-as}
 use native.Mathlib.Omega.{arith}
 use borrow.Author.Needs.{needs}
 use Rattle.session.proofs.take_back.Statement.{statement}
@@ -15,41 +10,38 @@ use Rattle.session.proofs.take_back.Tie as tie
 refusal-requires : tie.Need-refusal-requires
 refusal-requires c κs = search needs
 
-passed : (c : tie.Else1) → numberOf (c .before .before .args .t1) (settle (c .before .before .args .source)) ≡ 0
-passed c = sym (c .before .refusal .ensures) ∙ c .if1 .left
-
-low : (c : tie.Else1) → c .before .before .args .source < 8
-low c = source-low _ _ (passed c)
-
-few : (c : tie.Else1) → standingCount (c .before .before .args .t1) (c .before .before .args .source) ≤ depth
-few c = count-low _ _ (passed c)
+went : (c : tie.Else1) → Passed (c .before .before .args .s) (c .before .before .args .source)
+went c = passed _ _ (c .before .refusal .ensures) (c .if1 .left)
 
 returns : tie.Need-returns
 returns c = take-refused _ _ (c .before .refusal .ensures) (c .if1 .taken)
 
-element-copy-out-n : tie.Need-element-copy-out-n
-element-copy-out-n c = low c
+array-read-n : tie.Need-array-read-n
+array-read-n c = went (c .before) .low
 
 returns-2 : tie.Need-returns-2
-returns-2 c = take-none _ _ (passed (c .before .before)) (c .if2 .taken)
+returns-2 c = take-none _ _ (went (c .before .before) .number) (c .if2 .taken)
 
-sub-restood : tie.Need-sub-restood
-sub-restood c = search needs
+sub-put : tie.Need-sub-put
+sub-put c = search needs
 
-sub-restood-2 : tie.Need-sub-restood-2
-sub-restood-2 c = search needs
+cast-put : tie.Need-cast-put
+cast-put c = omega (arith, went (c .before .before .before) .few)
 
-cast-restood : tie.Need-cast-restood
-cast-restood c = omega (arith, few (c .before .before))
+put-requires : tie.Need-put-requires
+put-requires c κs =
+    let w = went (c .before .before .before) in
+    (w .low, omega (arith, w .few))
 
-restood-requires : tie.Need-restood-requires
-restood-requires c κs = (low (c .before .before), omega (arith, few (c .before .before)))
+sub-stood : tie.Need-sub-stood
+sub-stood c = search needs
+
+stood-requires : tie.Need-stood-requires
+stood-requires c κs = went (c .before .before .before .before) .low
 
 returns-3 : tie.Need-returns-3
-unfolding takenBack ofBits
-returns-3 c =
-    let d = c .before .before .before in
-    take-done _ _ (passed d) (c .before .if2 .left) (c .restood .ensures)
+unfolding ofBits
+returns-3 c = take-done _ _ (went (c .before .before .before .before .before) .number) (c .before .before .before .if2 .left) (taken-as _ _ (c .before .put .ensures) (c .stood .ensures))
 
 pub take-back-spec : {M : Type 1} → statement M
 take-back-spec =
@@ -57,10 +49,11 @@ take-back-spec =
     (tie.spec
     refusal-requires
     returns
-    element-copy-out-n
+    array-read-n
     returns-2
-    sub-restood
-    sub-restood-2
-    cast-restood
-    restood-requires
+    sub-put
+    cast-put
+    put-requires
+    sub-stood
+    stood-requires
     returns-3)

@@ -1,6 +1,8 @@
 -- `trig::cos32` meets its contract: widened, computed, narrowed. Assumes nothing.
+use mathlib.Core.Path.{ap, _∙_}
 use borrow.Author.Needs.{needs}
-use Rattle.trig.specs.Sine.{cos32Of}
+use Rattle.ieee.specs.Narrow.{narrowOf}
+use Rattle.trig.specs.Sine.{cosOf, cos32Of}
 use Rattle.trig.proofs.cos32.Statement.{statement}
 use Rattle.trig.proofs.cos32.Tie as tie
 
@@ -15,7 +17,7 @@ narrow-requires c κs = search needs
 
 returns : tie.Need-returns
 unfolding cos32Of
-returns c = cc
+returns c = c .narrow .ensures ∙ ap narrowOf (c .before .cos .ensures ∙ ap cosOf (c .before .before .widen .ensures))
 
 pub cos32-spec : {M : Type 1} → statement M
 cos32-spec = tie.close (tie.spec widen-requires cos-requires narrow-requires returns)

@@ -1,6 +1,8 @@
 -- `trig::sin32` meets its contract: widened, computed, narrowed. Assumes nothing.
+use mathlib.Core.Path.{ap, _∙_}
 use borrow.Author.Needs.{needs}
-use Rattle.trig.specs.Sine.{sin32Of}
+use Rattle.ieee.specs.Narrow.{narrowOf}
+use Rattle.trig.specs.Sine.{sinOf, sin32Of}
 use Rattle.trig.proofs.sin32.Statement.{statement}
 use Rattle.trig.proofs.sin32.Tie as tie
 
@@ -15,7 +17,7 @@ narrow-requires c κs = search needs
 
 returns : tie.Need-returns
 unfolding sin32Of
-returns c = cc
+returns c = c .narrow .ensures ∙ ap narrowOf (c .before .sin .ensures ∙ ap sinOf (c .before .before .widen .ensures))
 
 pub sin32-spec : {M : Type 1} → statement M
 sin32-spec = tie.close (tie.spec widen-requires sin-requires narrow-requires returns)

@@ -1,6 +1,8 @@
 -- `trig::sin_cos32` meets its contract: widened, computed, narrowed. Assumes nothing.
+use mathlib.Core.Path.{ap, _∙_}
 use borrow.Author.Needs.{needs}
-use Rattle.trig.specs.Sine.{sin32Of, cos32Of}
+use Rattle.ieee.specs.Narrow.{narrowOf}
+use Rattle.trig.specs.Sine.{sinOf, cosOf, sin32Of, cos32Of}
 use Rattle.trig.proofs.sin_cos32.Statement.{statement}
 use Rattle.trig.proofs.sin_cos32.Tie as tie
 
@@ -18,7 +20,10 @@ narrow-requires-2 c κs = search needs
 
 returns : tie.Need-returns
 unfolding sin32Of cos32Of
-returns c = (cc, cc)
+returns c =
+    let p = c .before .before .sin-cos .ensures in
+    let w = c .before .before .before .widen .ensures in
+    (c .before .narrow .ensures ∙ ap narrowOf (p .0 ∙ ap sinOf w), c .narrow2 .ensures ∙ ap narrowOf (p .1 ∙ ap cosOf w))
 
 pub sin-cos32-spec : {M : Type 1} → statement M
 sin-cos32-spec =

@@ -3,9 +3,6 @@ use Rattle.vector.specs.Vector.{dirVecOf}
 use borrow.Author.Needs.{needs}
 use Rattle.vector.proofs.dir_vec.Statement.{statement}
 use Rattle.vector.proofs.dir_vec.Tie as tie
-use Rattle.vector.proofs.dir_vec.Reads as reads
-use Rattle.vector.proofs.dir_vec.Lts as lts
-use Rattle.trig.proofs.sin_cos32.Reads as sin-cos32-reads
 
 sin-cos32-requires : tie.Need-sin-cos32-requires
 sin-cos32-requires c κs = search needs

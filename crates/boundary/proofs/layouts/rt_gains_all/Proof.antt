@@ -22,6 +22,4 @@ returns c =
     rw (← r, ← c .num-outputs .ensures) (refl, c .before .before .before .rows .ensures)
 
 pub rt-gains-all-spec : {M : Type 1} → statement M
-rt-gains-all-spec =
-    tie.close
-    (tie.spec record-from-requires rows-requires num-outputs-requires same-length returns)
+rt-gains-all-spec = tie.close (tie.spec record-from-requires rows-requires num-outputs-requires same-length returns)

@@ -23,9 +23,7 @@ returns : tie.Need-returns
 returns c =
     let a = c .before .before .before .before .before .before .before in
     let e = a .before .before .before .before .before .before .new .ensures in
-    rw (← e) (refl, (refl, (a .before .before .before .before .head-of .ensures, (a .before .numbers-of .ensures, (a .bytes-of .ensures, (refl, (refl, (refl, (refl, (refl, (refl, refl)))))))))))
+    rw (← e) (refl, (refl, record { head-of = a .before .before .before .before .head-of .ensures; numbers-of = a .before .numbers-of .ensures; bytes-of = a .bytes-of .ensures; slots-of = refl; out-of = refl; dir-of = refl; idx-of = refl; inv-of = refl; counts-of = refl; nbrs-of = refl }))
 
 pub rt-new-spec : {M : Type 1} → statement M
-rt-new-spec =
-    tie.close
-    (tie.spec new-requires head-of-requires cast-n numbers-of-requires bytes-of-requires returns)
+rt-new-spec = tie.close (tie.spec new-requires head-of-requires cast-n numbers-of-requires bytes-of-requires returns)

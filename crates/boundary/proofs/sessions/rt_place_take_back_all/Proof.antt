@@ -4,9 +4,6 @@ use borrow.Author.Needs.{needs}
 use Rattle.boundary.proofs.sessions.rt_place_take_back_all.Statement.{statement}
 use Rattle.boundary.proofs.sessions.rt_place_take_back_all.Tie as tie
 
-record-from-requires : tie.Need-record-from-requires
-record-from-requires c κs = search needs
-
 session-from-requires : tie.Need-session-from-requires
 session-from-requires c κs = search needs
 
@@ -15,11 +12,8 @@ place-take-back-requires c κs = search needs
 
 returns : tie.Need-returns
 returns c =
-    let a = c .before .before .before in
-    let e = rw (a .before .before .before .before .before .record-from .ensures) at (a .before .session-from .ensures) in
-    rw (← e, ← a .place-take-back .ensures) (refl, (refl, (refl, refl)))
+    let a = c .before .before in
+    rw (← a .before .session-from .ensures, ← a .place-take-back .ensures) (refl, (refl, (refl, refl)))
 
 pub rt-place-take-back-all-spec : {M : Type 1} → statement M
-rt-place-take-back-all-spec =
-    tie.close
-    (tie.spec record-from-requires session-from-requires place-take-back-requires returns)
+rt-place-take-back-all-spec = tie.close (tie.spec session-from-requires place-take-back-requires returns)

@@ -1,0 +1,6 @@
+pub mod Known
+pub mod Pairs
+pub mod Rows
+pub mod Records
+pub mod Left
+pub mod Back

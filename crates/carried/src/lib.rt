@@ -1,0 +1,13 @@
+// A record and a session as arrays of numbers, handed out and taken in; and the calls on them for several directions.
+pub mod directions;
+pub mod record;
+pub mod sessions;
+
+ghost use mathlib.Core.Path.{_≡_};
+ghost use Prim.Native.Nat.{min};
+
+fn least(a: usize, b: usize) -> usize
+    ensures { λ r. ⌜ r ≡ min a b ⌝ }
+{
+    if a < b { a } else { b }
+}

@@ -1,0 +1,4 @@
+pub mod Reading
+pub mod Heights
+pub mod Faces
+pub mod Apart

@@ -1,0 +1,6 @@
+pub mod FloatOrder
+pub mod Places
+pub mod Passed
+pub mod Tops
+pub mod Found
+pub mod Meaning

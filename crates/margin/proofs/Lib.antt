@@ -1,0 +1,4 @@
+pub mod Signs
+pub mod Scaled
+pub mod Heights
+pub mod Apart

@@ -1,4 +1,0 @@
-// Replays the cases of the arctangent and of atan2.
-fn main() {
-    replay::run();
-}

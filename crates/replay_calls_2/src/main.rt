@@ -1,4 +1,0 @@
-// Replays lists of calls on sessions made by hand.
-fn main() {
-    replay_call::run();
-}

@@ -1,4 +1,0 @@
-// Replays the cases of drawn layouts.
-fn main() {
-    replay_layout::run();
-}

@@ -1,4 +1,0 @@
-// Replays the cases of maximum and absolute value at f64.
-fn main() {
-    replay::run();
-}

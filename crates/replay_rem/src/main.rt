@@ -1,4 +1,0 @@
-// Replays the cases of the remainder.
-fn main() {
-    replay::run();
-}

@@ -1,4 +1,0 @@
-// Replays the cases of the square roots.
-fn main() {
-    replay::run();
-}

@@ -1,4 +1,0 @@
-// Replays the cases of finiteness and of the sign bit.
-fn main() {
-    replay::run();
-}

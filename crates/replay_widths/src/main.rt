@@ -1,4 +1,0 @@
-// Replays the cases of widening, narrowing and whole numbers.
-fn main() {
-    replay::run();
-}

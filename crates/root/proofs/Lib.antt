@@ -1,0 +1,5 @@
+pub mod Candidate
+pub mod Examples
+pub mod Meaning
+pub mod Root
+pub mod Sqrt
