@@ -3,11 +3,11 @@ ghost use mathlib.Core.Path.{_≡_};
 ghost use Prim.Native.Nat.{min};
 ghost use lib.ListN.{length};
 ghost use lib.Ieee.{binary32, binary64};
-ghost use Rattle.ieee.specs.Narrow.{narrowOf};
+ghost use Rattle.widths.specs.Narrow.{narrowOf};
 ghost use Rattle.root.specs.Root.{sqrtOf};
 ghost use Rattle.trig.specs.Sine.{sinOf, cosOf};
-ghost use Rattle.trig.specs.Arctangent.{atan2Of};
-ghost use Rattle.ramp.specs.Mixed.{normalizedLerpGainOf};
+ghost use Rattle.arctangent.specs.Arctangent.{atan2Of};
+ghost use Rattle.mixed_gain.specs.Mixed.{normalizedLerpGainOf};
 ghost use Rattle.arrays.specs.Arrays.{at, Filled};
 
 fn least(a: usize, b: usize) -> usize
@@ -22,7 +22,7 @@ pub fn narrow_all(src: &[f64], dst: &mut [f32])
     let n = least(src.len(), dst.len());
     let mut i = 0;
     while i < n {
-        dst[i] = ieee::narrow(src[i]);
+        dst[i] = widths::narrow(src[i]);
         i += 1;
     }
 }
@@ -71,7 +71,7 @@ pub fn atan2_all(y: &[f64], x: &[f64], dst: &mut [f64])
     let n = least(y.len(), least(x.len(), dst.len()));
     let mut i = 0;
     while i < n {
-        dst[i] = trig::atan2(y[i], x[i]);
+        dst[i] = arctangent::atan2(y[i], x[i]);
         i += 1;
     }
 }
@@ -86,7 +86,7 @@ pub fn normalized_lerp_gain_all(from: &[f32], to: &[f32], dot: &[f32], t: &[f32]
     );
     let mut i = 0;
     while i < n {
-        dst[i] = ramp::normalized_lerp_gain(from[i], to[i], dot[i], t[i]);
+        dst[i] = mixed_gain::normalized_lerp_gain(from[i], to[i], dot[i], t[i]);
         i += 1;
     }
 }

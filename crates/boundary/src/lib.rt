@@ -9,17 +9,17 @@ ghost use mathlib.Core.Path.{_≡_};
 ghost use Prim.Native.Nat.{min};
 ghost use lib.ListN.{length};
 ghost use lib.Ieee.{binary32, binary64};
-ghost use Rattle.ieee.specs.Narrow.{narrowOf};
+ghost use Rattle.widths.specs.Narrow.{narrowOf};
 ghost use Rattle.root.specs.Root.{sqrtOf};
 ghost use Rattle.trig.specs.Sine.{sinOf, cosOf};
-ghost use Rattle.trig.specs.Arctangent.{atan2Of};
+ghost use Rattle.arctangent.specs.Arctangent.{atan2Of};
 ghost use Rattle.arrays.specs.Arrays.{at, Filled};
 
 #[no_mangle]
 pub extern "C" fn rt_narrow(x: f64) -> f32
     ensures { λ r. ⌜ r ≡ narrowOf x ⌝ }
 {
-    ieee::narrow(x)
+    widths::narrow(x)
 }
 
 #[no_mangle]
@@ -54,7 +54,7 @@ pub extern "C" fn rt_cos(v: f64) -> f64
 pub extern "C" fn rt_atan2(y: f64, x: f64) -> f64
     ensures { λ r. ⌜ r ≡ atan2Of y x ⌝ }
 {
-    trig::atan2(y, x)
+    arctangent::atan2(y, x)
 }
 
 #[no_mangle]

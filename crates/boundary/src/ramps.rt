@@ -2,7 +2,7 @@
 ghost use mathlib.Core.Path.{_≡_};
 ghost use Prim.Native.Nat.{min};
 ghost use lib.ListN.{length};
-ghost use Rattle.ramp.specs.Mixed.{normalizedLerpGainOf};
+ghost use Rattle.mixed_gain.specs.Mixed.{normalizedLerpGainOf};
 ghost use Rattle.ramp.specs.Ramp.{rampAddOf};
 ghost use Rattle.arrays.specs.Arrays.{at, Filled};
 
@@ -10,7 +10,7 @@ ghost use Rattle.arrays.specs.Arrays.{at, Filled};
 pub extern "C" fn rt_normalized_lerp_gain(from: f32, to: f32, dot: f32, t: f32) -> f32
     ensures { λ r. ⌜ r ≡ normalizedLerpGainOf from to dot t ⌝ }
 {
-    ramp::normalized_lerp_gain(from, to, dot, t)
+    mixed_gain::normalized_lerp_gain(from, to, dot, t)
 }
 
 // The gain of each four numbers.

@@ -12,7 +12,7 @@ use lib.Ieee.Fits.{and-i, add-fits}
 use lib.Ieee.Scale.{overflow}
 use Rattle.ieee.specs.Values.{+0, 1·0, signBit}
 use Rattle.trig.specs.Pi.{halfPi}
-use Rattle.trig.specs.Arctangent.{8·0, halvedOf, eightfoldOf, atanOf, ratioOf, firstQuadrantOf, withSignOfX, withSignOfY, atan2Of}
+use Rattle.arctangent.specs.Arctangent.{8·0, halvedOf, eightfoldOf, atanOf, ratioOf, firstQuadrantOf, withSignOfX, withSignOfY, atan2Of}
 use Rattle.bounds.proofs.Units.{Val, add-round, div-round}
 use Rattle.bounds.proofs.Held.{Held, held, zero-is}
 use Rattle.bounds.proofs.Size.{Most, Mag, Between, mag-of, mag-neg, mag-cond, most-more, round-most, round-between, times-most, square-most, rest-most, div-most}

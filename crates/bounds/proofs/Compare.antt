@@ -13,7 +13,7 @@ use lib.Ieee.Order.{le-of-values}
 use lib.Ieee.Positive.{first-pos}
 use lib.Ieee.Scale.{finite}
 use Rattle.ieee.specs.Values.{+0, abs}
-use Rattle.ieee.proofs.Grid.{le-or-lt}
+use Rattle.widths.proofs.Grid.{le-or-lt}
 use Rattle.bounds.proofs.Units.{Val, val-finite, own-units, left, right}
 use Rattle.bounds.proofs.Held.{zero-is}
 use Rattle.bounds.proofs.Size.{Mag, Most, Between, mag-of, most-sign}

@@ -13,7 +13,7 @@ use lib.Ieee.Nearest.{closest}
 use lib.Ieee.Order.{drop}
 use lib.Ieee.Scale.{grid}
 use Rattle.ieee.proofs.Laws.{double}
-use Rattle.ieee.proofs.Grid.{le-or-lt, cmp, picks}
+use Rattle.widths.proofs.Grid.{le-or-lt, cmp, picks}
 
 -- 2 ^ prec - 1
 abbrev pub steps : Format → ℕ

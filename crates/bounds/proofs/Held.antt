@@ -16,7 +16,7 @@ use lib.Ieee.Nearest.{closest, closest-mono, nearest-ge, div-mono}
 use lib.Ieee.Order.{drop, kept}
 use lib.Ieee.Scale.{grid, overflow}
 use Rattle.ieee.proofs.Laws.{pow-back}
-use Rattle.ieee.proofs.Grid.{units-size}
+use Rattle.widths.proofs.Grid.{units-size}
 use Rattle.bounds.proofs.Units.{Val, round-Val}
 
 -- ---- private in lib.Ieee.Order, so written again here

@@ -8,7 +8,7 @@ use lib.Dec.{lit≤, lit<}
 use lib.Pow.{pow-pos}
 use lib.Ieee.{Float, binary32}
 use lib.Ieee.Scale.{grid, overflow}
-use Rattle.ieee.proofs.Grid.{le-or-lt}
+use Rattle.widths.proofs.Grid.{le-or-lt}
 use Rattle.bounds.proofs.Held.{Held}
 use Rattle.bounds.proofs.Error.{steps, round-error}
 use Rattle.bounds.proofs.Root.{RootOf}

@@ -11,7 +11,7 @@ use lib.Ieee.{Float, nan, inf, fin, Format, low, down, fits, round}
 use lib.Ieee.Fits.{up-pos, round-fits}
 use lib.Ieee.Scale.{overflow}
 use Rattle.root.specs.Root.{sqrtOf}
-use Rattle.ieee.proofs.Grid.{le-or-lt}
+use Rattle.widths.proofs.Grid.{le-or-lt}
 use Rattle.root.proofs.Meaning.{sqrt-nearest}
 use Rattle.bounds.proofs.Units.{Val}
 use Rattle.bounds.proofs.Held.{Held, held-val}

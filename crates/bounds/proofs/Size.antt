@@ -11,7 +11,7 @@ use lib.Pow.{pow-pos, pow-add}
 use lib.Ieee.{Float, nan, inf, fin, Format, binary32, binary64, prec, emax, low, up, down, unlike, round, sum, add, sub, neg, mul, div, fits}
 use lib.Ieee.Fits.{down-pos, and-r}
 use lib.Ieee.Scale.{grid, overflow, finite, round-same}
-use Rattle.ieee.specs.Narrow.{narrowOf}
+use Rattle.widths.specs.Narrow.{narrowOf}
 use Rattle.bounds.proofs.Units.{left, right, taken, opened-add, Val, round-Val, val-finite, mul-round, div-round, add-round, add-unlike, sub-rest, neg-val, sub-is, narrow-round, own-units}
 use Rattle.bounds.proofs.Held.{Held, grid-le, grid-ge, grid-numbers}
 

@@ -12,7 +12,7 @@ use lib.Ieee.Fits.{and-l, and-r}
 use lib.Ieee.Scale.{grid, overflow}
 use Rattle.trig.specs.Series.{coefficients, sumOf, factorial}
 use Rattle.trig.specs.Sine.{sineCoefficients, cosineCoefficients}
-use Rattle.trig.specs.Arctangent.{arctangentCoefficients}
+use Rattle.arctangent.specs.Arctangent.{arctangentCoefficients}
 use Rattle.bounds.proofs.Units.{Val, round-Val}
 use Rattle.bounds.proofs.Held.{Held, grid-held}
 use Rattle.bounds.proofs.Size.{Most, most-sign, mul-most, add-most}

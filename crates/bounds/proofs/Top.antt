@@ -9,7 +9,7 @@ use lib.Pow.{pow-add, pow-mono}
 use lib.Ieee.{Float, binary32, size, sub, fits}
 use lib.Ieee.Digits.{back}
 use lib.Ieee.Scale.{finite}
-use Rattle.ieee.proofs.Grid.{le-or-lt}
+use Rattle.widths.proofs.Grid.{le-or-lt}
 use Rattle.bounds.proofs.Units.{sub-is}
 use Rattle.bounds.proofs.Held.{Held, fits-held}
 use Rattle.bounds.proofs.Size.{Mag, mag-max, mag-neg, mag-absorb}

@@ -16,7 +16,7 @@ use lib.Ieee.Order.{drop, kept}
 use lib.Ieee.Scale.{grid, overflow, finite, round-same}
 use lib.Ieee.Positive.{first-pos}
 use borrow.Author.Tests.{ne-eqb}
-use Rattle.ieee.specs.Narrow.{narrowOf}
+use Rattle.widths.specs.Narrow.{narrowOf}
 use Rattle.ieee.proofs.Laws.{pow-back}
 
 pub record Val (f : Format) (x : Float) (s : Bool) (X : ℕ) : Type 0 where

@@ -9,7 +9,7 @@ use lib.Dec.{T, ltb, ltb→lt, nltb→le}
 use lib.Ieee.{up, down}
 use lib.Ieee.Fits.{down-pos}
 use lib.Ieee.Nearest.{closest}
-use Rattle.ieee.specs.Meaning.{apart}
+use Rattle.widths.specs.Meaning.{apart}
 use Rattle.decimal.specs.declared.Size.the-variants.{Steps, Large}
 use Rattle.decimal.specs.Decimal.{decimalOf}
 use Rattle.decimal.specs.Meaning.{Nearest, DecimalNearest}

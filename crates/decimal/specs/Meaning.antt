@@ -4,7 +4,7 @@ use mathlib.Core.Bool.{Bool}
 use Prim.Native.Nat.{ℕ, _*_, _%_, _^_, _≤_}
 use lib.IntN.{ℤ}
 use lib.Ieee.{fin, up, down}
-use Rattle.ieee.specs.Meaning.{apart}
+use Rattle.widths.specs.Meaning.{apart}
 use Rattle.decimal.specs.declared.Size.the-variants.{Steps}
 use Rattle.decimal.specs.Decimal.{decimalOf}
 

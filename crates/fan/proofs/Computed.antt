@@ -8,7 +8,7 @@ use lib.Ieee.{Float, binary64, sub, neg, le}
 use lib.ListN.{length, take}
 use Rattle.ieee.specs.Remainder.{remEuclidOf}
 use Rattle.trig.specs.Pi.{twoPi}
-use Rattle.trig.specs.Arctangent.{atan2Of}
+use Rattle.arctangent.specs.Arctangent.{atan2Of}
 use Rattle.vector.specs.Vector.{Vector, dotOf, crossOf, overOf, lengthOf}
 use Rattle.order.specs.declared.Spot.{Spot}
 use Rattle.order.specs.Front.{sortedIn}

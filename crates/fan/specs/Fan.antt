@@ -8,7 +8,7 @@ use Rattle.lists.specs.Lists.{filter, every, isEmpty, position}
 use Rattle.ieee.specs.Values.{+0, 1·0, abs}
 use Rattle.ieee.specs.Remainder.{remEuclidOf}
 use Rattle.trig.specs.Pi.{twoPi}
-use Rattle.trig.specs.Arctangent.{atan2Of}
+use Rattle.arctangent.specs.Arctangent.{atan2Of}
 use Rattle.vector.specs.Vector.{Vector, Points, x, dotOf, crossOf, overOf, lengthOf}
 use Rattle.order.specs.declared.Spot.{Spot}
 use Rattle.order.specs.Order.{sortedOf}

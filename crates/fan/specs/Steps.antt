@@ -10,7 +10,7 @@ use Rattle.lists.specs.Lists.{every, position, filled, part}
 use Rattle.ieee.specs.Values.{+0}
 use Rattle.ieee.specs.Remainder.{remEuclidOf}
 use Rattle.trig.specs.Pi.{twoPi}
-use Rattle.trig.specs.Arctangent.{atan2Of}
+use Rattle.arctangent.specs.Arctangent.{atan2Of}
 use Rattle.vector.specs.Vector.{Vector, Points, dotOf, crossOf}
 use Rattle.order.specs.declared.Spot.{Spot}
 use Rattle.order.specs.Order.{sortedOf}

@@ -97,7 +97,7 @@ fn ang(pts: &[f64; 162], u: [f64; 3], v: [f64; 3], p: usize) -> f64
     ensures { λ r. ⌜ r ≡ angleOf (now (pts .entry)) u v p ⌝ }
 {
     let pt = faces::point(pts, p);
-    trig::atan2(vector::dot(pt, v), vector::dot(pt, u))
+    arctangent::atan2(vector::dot(pt, v), vector::dot(pt, u))
 }
 
 // Point p with its angle from am on.

@@ -81,7 +81,7 @@ fn share(out: &mut [f32], nbrs: &[u8], n: usize, g: f32)
     ensures { λ _. ⌜ now (out .exit) ≡ sharedBy (take n (now (nbrs .entry))) g (now (out .entry)) ⌝ }
 {
     if (g > 0.0) & (n != 0) {
-        let w = g / root::sqrt32(ieee::f32_from_u64(n as u64));
+        let w = g / root::sqrt32(widths::f32_from_u64(n as u64));
         add_each(out, nbrs, n, w);
     }
 }

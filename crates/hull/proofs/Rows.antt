@@ -4,7 +4,7 @@ use mathlib.Core.Path.{_≡_, refl}
 use mathlib.Core.List.{List, [], _∷_}
 use lib.Ieee.{Float, binary64, div}
 use Rattle.lists.specs.Lists.{part}
-use Rattle.ieee.specs.Narrow.{narrowOf}
+use Rattle.widths.specs.Narrow.{narrowOf}
 use Rattle.vector.specs.Vector.{Vector, x, y, z, dotOf, crossOf}
 use Rattle.faces.specs.Steps.{pointIn}
 use Rattle.faces.proofs.Reading.{read-dot, read-cross}

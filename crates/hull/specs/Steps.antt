@@ -7,7 +7,7 @@ use lib.ListN.{getD, set}
 use lib.Seq.{sets}
 use lib.Ieee.{Float, nan, binary64, div}
 use Rattle.lists.specs.Lists.{range}
-use Rattle.ieee.specs.Narrow.{narrowOf}
+use Rattle.widths.specs.Narrow.{narrowOf}
 use Rattle.vector.specs.Vector.{Vector, x, y, z, crossOf}
 use Rattle.hull.specs.declared.Hull.{Hull}
 

@@ -9,7 +9,7 @@ use lib.ListN.{length}
 use lib.Ieee.{Float, binary64, div, lt}
 use Rattle.lists.specs.Lists.{range, between, collect, any, isEmpty}
 use Rattle.ieee.specs.Values.{abs}
-use Rattle.ieee.specs.Narrow.{narrowOf}
+use Rattle.widths.specs.Narrow.{narrowOf}
 use Rattle.vector.specs.Vector.{Vector, Points, dotOf, crossOf, lengthOf}
 use Rattle.faces.specs.Faces.{tiny, leastDistance, Plane, point, others, rawNormal, planeThrough, allBelow, allAbove, outward}
 use Rattle.fan.specs.Fan.{coplanar, inFan}

@@ -38,9 +38,9 @@ fn row(r: [f64; 3], det: f64) -> [f32; 3]
     ensures { λ s. ⌜ s ≡ rowOf r det ⌝ }
 {
     [
-        ieee::narrow(r[0] / det),
-        ieee::narrow(r[1] / det),
-        ieee::narrow(r[2] / det),
+        widths::narrow(r[0] / det),
+        widths::narrow(r[1] / det),
+        widths::narrow(r[2] / det),
     ]
 }
 

@@ -1,7 +1,5 @@
 pub mod Examples
-pub mod Grid
 pub mod Laws
-pub mod Meaning
 pub mod Order
 pub mod Read
 pub mod Remainder

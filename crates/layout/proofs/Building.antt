@@ -13,7 +13,7 @@ use Rattle.lists.specs.Lists.{from, range, between, part, filled}
 use Rattle.lists.proofs.Filled.{take-filled, getD-filled}
 use Rattle.lists.proofs.Tests.{every-at, every-always}
 use Rattle.ieee.specs.Values.{+0}
-use Rattle.ieee.specs.Narrow.{narrowOf}
+use Rattle.widths.specs.Narrow.{narrowOf}
 use Rattle.vector.specs.Vector.{Points, pointsIn}
 use Rattle.vector.specs.Speakers.{Speaker, slotsOf, dirsOf}
 use Rattle.hull.specs.Triplets.{Triplet, tripletsOf}

@@ -10,7 +10,7 @@ use lib.ListN.{length, length-map}
 use Rattle.lists.specs.Lists.{every, between}
 use Rattle.lists.proofs.Ranges.{length-between}
 use Rattle.lists.proofs.Tests.{every-append, every-more}
-use Rattle.ieee.specs.Narrow.{narrowOf}
+use Rattle.widths.specs.Narrow.{narrowOf}
 use Rattle.vector.specs.Vector.{Points}
 use Rattle.vector.specs.Speakers.{Speaker, slotsOf, dirsOf}
 use Rattle.planar.specs.Planar.{pairsOf}

@@ -9,7 +9,7 @@ use lib.ListN.{length}
 use lib.Ieee.{Float, binary32, le, ofBits}
 use Rattle.lists.specs.Lists.{range, between, collect, every, member, part}
 use Rattle.ieee.specs.Values.{abs}
-use Rattle.ieee.specs.Narrow.{narrowOf}
+use Rattle.widths.specs.Narrow.{narrowOf}
 use Rattle.trig.specs.Sine.{sinOf}
 use Rattle.vector.specs.Vector.{Vector, y, unitOf}
 use Rattle.vector.specs.Speakers.{Speaker, slotsOf, dirsOf}

@@ -5,7 +5,7 @@ ghost use Prim.Native.Nat.{_+_, _*_, _≤_, _<_};
 ghost use lib.ListN.{length, take};
 ghost use Rattle.lists.specs.Lists.{range, collect, every, member, filled};
 ghost use Rattle.ieee.specs.Values.{+0};
-ghost use Rattle.ieee.specs.Narrow.{narrowOf};
+ghost use Rattle.widths.specs.Narrow.{narrowOf};
 ghost use Rattle.vector.specs.Vector.{pointsIn};
 ghost use Rattle.layout.specs.Layout.{speakerAt, levelAt, newOf};
 ghost use Rattle.layout.specs.Answers.{hullBuiltOf};
@@ -126,7 +126,7 @@ fn narrowed(dir: &[f64; 120], n: usize) -> [f32; 120]
     let mut r = [0.0f32; 120];
     let mut i: usize = 0;
     while i < n * 3 {
-        r[i] = ieee::narrow(dir[i]);
+        r[i] = widths::narrow(dir[i]);
         i += 1;
     }
     r

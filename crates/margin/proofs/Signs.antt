@@ -10,7 +10,7 @@ use lib.Pow.{pow-pos}
 use lib.Ieee.{Float, nan, inf, fin, Format, binary64, low, up, down, round, sum, add, neg, lt, le, eq}
 use lib.Ieee.Fits.{down-pos}
 use lib.Ieee.Scale.{round-same}
-use Rattle.ieee.proofs.Grid.{le-or-lt}
+use Rattle.widths.proofs.Grid.{le-or-lt}
 use Rattle.bounds.proofs.Units.{Val, left, right, taken, opened-add, add-round, add-unlike, add-rest, add-turned}
 use Rattle.bounds.proofs.Compare.{not-lt-val}
 

@@ -7,7 +7,7 @@ use lib.Ieee.{Float, binary64, sub, neg, div, lt}
 use borrow.Author.Tests.{ltb-true}
 use Rattle.lists.proofs.Tests.{cond-yes, cond-no}
 use Rattle.ieee.specs.Values.{abs}
-use Rattle.ieee.specs.Narrow.{narrowOf}
+use Rattle.widths.specs.Narrow.{narrowOf}
 use Rattle.ieee.specs.Remainder.{remEuclidOf}
 use Rattle.trig.specs.Pi.{twoPi}
 use Rattle.trig.specs.Sine.{sinOf, cosOf}

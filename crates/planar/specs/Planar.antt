@@ -8,11 +8,11 @@ use lib.ListN.{length, getD}
 use lib.Ieee.{Float, nan, binary32, binary64, sub, neg, div, lt, ofBits}
 use Rattle.lists.specs.Lists.{range, collect}
 use Rattle.ieee.specs.Values.{+0, abs}
-use Rattle.ieee.specs.Narrow.{narrowOf}
+use Rattle.widths.specs.Narrow.{narrowOf}
 use Rattle.ieee.specs.Remainder.{remEuclidOf}
 use Rattle.trig.specs.Pi.{twoPi}
 use Rattle.trig.specs.Sine.{sinOf, cosOf}
-use Rattle.trig.specs.Arctangent.{atan2Of}
+use Rattle.arctangent.specs.Arctangent.{atan2Of}
 use Rattle.vector.specs.Vector.{x, z, minor}
 use Rattle.vector.specs.Speakers.{Speaker}
 use Rattle.order.specs.declared.Spot.{Spot}

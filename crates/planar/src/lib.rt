@@ -65,7 +65,7 @@ fn spot(slot: u8, dir: [f64; 3]) -> Spot
     ensures slot { λ r. ⌜ slotFits r ≡ true ⌝ }
 {
     Spot {
-        angle: trig::atan2(dir[0], -dir[2]),
+        angle: arctangent::atan2(dir[0], -dir[2]),
         number: slot as usize,
     }
 }
@@ -107,10 +107,10 @@ fn inverse_law(ax: f64, az: f64, bx: f64, bz: f64) -> Law
         return Law::Crossfade;
     }
     Law::Inverse(
-        ieee::narrow(bz / det),
-        ieee::narrow(-bx / det),
-        ieee::narrow(-az / det),
-        ieee::narrow(ax / det),
+        widths::narrow(bz / det),
+        widths::narrow(-bx / det),
+        widths::narrow(-az / det),
+        widths::narrow(ax / det),
     )
 }
 
@@ -118,7 +118,7 @@ fn inverse_law(ax: f64, az: f64, bx: f64, bz: f64) -> Law
 fn law_of(a: SinCos, b: SinCos, gap: f64) -> Law
     ensures { λ r. ⌜ ((azA azB : Float) → Turned azA a → Turned azB b → r ≡ lawOf azA azB gap) ⌝ }
 {
-    if ieee::narrow(gap) < MAX_VBAP_GAP {
+    if widths::narrow(gap) < MAX_VBAP_GAP {
         return inverse_law(a.sin, -a.cos, b.sin, -b.cos);
     }
     Law::Crossfade
@@ -135,8 +135,8 @@ fn pair_of(g: f64, s: Spot, t: Spot, a: SinCos, b: SinCos) -> Joined
     }
     let law = law_of(a, b, g);
     Joined::Pair(PlanarPair {
-        start: ieee::narrow(s.angle),
-        gap: ieee::narrow(g),
+        start: widths::narrow(s.angle),
+        gap: widths::narrow(g),
         a: s.number as u8,
         b: t.number as u8,
         law,

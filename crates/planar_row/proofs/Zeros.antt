@@ -12,7 +12,7 @@ use lib.Ieee.Scale.{round-same}
 use Rattle.ieee.specs.Values.{+0, 1·0}
 use Rattle.ieee.specs.Order.{squareOf}
 use Rattle.root.specs.Root.{sqrtOf}
-use Rattle.ieee.specs.Narrow.{narrowOf}
+use Rattle.widths.specs.Narrow.{narrowOf}
 use Rattle.trig.specs.Sine.{sin32Of, sinOf, sineBy, mod4, reduced, quarter, nearestWhole, quotient, remainder, S, sineCoefficients}
 use Rattle.trig.specs.Series.{coefficients, factorial, sumOf}
 use Rattle.planar_row.specs.PlanarRow.{halfPi32, spreadGain}

@@ -225,7 +225,7 @@ fn spread_over(w: f32, slots: [u8; 40], n: usize, row: &mut [f32])
     if n == 0 {
         return;
     }
-    let d2 = w / ieee::f32_from_u64(n as u64);
+    let d2 = w / widths::f32_from_u64(n as u64);
     let silent = spread_gain(w, d2, 0.0);
     let mut i: usize = 0;
     while i < n {

@@ -7,13 +7,13 @@ use native.Mathlib.Nat.{zero-min}
 use lib.Ieee.{Float, size, round, neg, add, sub, mul, div, rem, lt, eq, le, ofInt, ofBits, toBits, toUnsigned, isNan}
 use Rattle.lists.specs.Lists.{from, range, collect, every, any, isEmpty, firstThat, last, filled, part}
 use Rattle.ieee.specs.Values.{+0, 1·0, abs, signBit, isFinite}
-use Rattle.ieee.specs.Narrow.{narrowOf}
+use Rattle.widths.specs.Narrow.{narrowOf}
 use Rattle.root.specs.Root.{sqrtOf}
 use Rattle.ieee.specs.Order.{maxOf, clampOf, squareOf, powi4Of}
 use Rattle.ieee.specs.Remainder.{remEuclidOf}
 use Rattle.trig.specs.Series.{coefficients, sumOf, factorial}
 use Rattle.trig.specs.Sine.{sineCoefficients, cosineCoefficients, S, C, remainder, quotient, nearestWhole, quarter, reduced, mod4, sineBy, cosineBy, sinOf, cosOf, sin32Of, cos32Of}
-use Rattle.trig.specs.Arctangent.{arctangentCoefficients, halvedOf, eightfoldOf, atanOf, ratioOf, firstQuadrantOf, withSignOfX, withSignOfY, atan2Of}
+use Rattle.arctangent.specs.Arctangent.{arctangentCoefficients, halvedOf, eightfoldOf, atanOf, ratioOf, firstQuadrantOf, withSignOfX, withSignOfY, atan2Of}
 use Rattle.vector.specs.Vector.{dotIn, dotOf, overOf, lengthOf, unitOf}
 use Rattle.vector.specs.Speakers.{Speaker, slotsOf}
 use Rattle.order.specs.declared.Spot.{Spot}
@@ -29,7 +29,7 @@ use Rattle.layout.specs.Layout.{outputsOf, speakerAt, active, levelAt, level, s
 use Rattle.planar_row.specs.PlanarRow.{Two, tau32, addAt, rel, contains, chosen, shaped, byCrossfade, byLaw, planarSpread, spread, pairRow, planarRow}
 use Rattle.gains.specs.Gains.{finiteOr0, rowIn, rowOf, gainsOf}
 use Rattle.ramp.specs.Ramp.{rampGain, rampAddOf}
-use Rattle.ramp.specs.Mixed.{normSqOf, normalizedLerpGainOf}
+use Rattle.mixed_gain.specs.Mixed.{normSqOf, normalizedLerpGainOf}
 use Rattle.history.specs.Calls.{place, takeBack}
 use Rattle.session_open.specs.Open.{fresh}
 use Rattle.session.specs.Session.{malformedSession, numberOf, restood, placed, takenBack, accepted, after, afterAll}

@@ -7,7 +7,7 @@ use lib.IntN.{pos, negsuc}
 use lib.ListN.{length}
 use lib.Ieee.{Float, fin, binary32, binary64, neg, ofInt, ofBits, toBits, toUnsigned}
 use Rattle.ieee.specs.Values.{+0, 1·0, 2·0}
-use Rattle.ieee.specs.Narrow.{narrowOf}
+use Rattle.widths.specs.Narrow.{narrowOf}
 use Rattle.root.specs.Root.{sqrtOf}
 use Rattle.planar.specs.declared.Law.the-variants.{Crossfade}
 use Rattle.panner.specs.Shape.{silent, mono, planar}
@@ -17,7 +17,7 @@ use Rattle.layout.specs.Layout.{active, layoutOf, pannerOf}
 use Rattle.planar_row.specs.PlanarRow.{tau32}
 use Rattle.gains.specs.Gains.{rowOf, gainsOf}
 use Rattle.ramp.specs.Ramp.{rampAddOf}
-use Rattle.ramp.specs.Mixed.{normalizedLerpGainOf}
+use Rattle.mixed_gain.specs.Mixed.{normalizedLerpGainOf}
 use Rattle.history.specs.Calls.{place, takeBack}
 use Rattle.session_open.specs.Open.{fresh}
 use Rattle.session.specs.Session.{numberOf, afterAll}

@@ -1,12 +1,9 @@
 -- Values that document 01 gives, "Cases", and the source's remark on equal gains: the definitions give each by computation. Assumes nothing.
 use mathlib.Core.Path.{_≡_, refl}
 use mathlib.Core.List.{[], _∷_}
-use lib.Ieee.{nan, binary32, ofBits, add, sub, mul, div, eq, lt, isNan, ofInt}
+use lib.Ieee.{nan, binary32, ofBits, add, sub, mul, div, eq, ofInt}
 use Rattle.lists.specs.Lists.{range, from}
 use Rattle.ieee.specs.Values.{+0, 1·0}
-use Rattle.ieee.specs.Order.{maxOf, clampOf}
-use Rattle.root.specs.Root.{sqrtOf}
-use Rattle.ramp.specs.Mixed.{normSqOf, normalizedLerpGainOf}
 use Rattle.ramp.specs.Ramp.{rampGain, rampAddOf}
 
 -- "Ramp 0 to 1 over samples 1, 1 into 0, 0: 0.5, 1"
@@ -23,8 +20,3 @@ ramp-keeps = refl
 ramp-zeros : rampAddOf (ofBits binary32 0x8000_0000 ∷ []) (1·0 ∷ []) +0 (ofBits binary32 0x8000_0000) ≡ ofBits binary32 0x8000_0000 ∷ []
 unfolding rampAddOf rampGain range from ofInt ofBits add sub mul div eq
 ramp-zeros = refl
-
--- "Mixed gain of 0.25, 0.75, dot 0, t 0: 0.25"
-mixed-at-0 : normalizedLerpGainOf (ofBits binary32 0x3e80_0000) (ofBits binary32 0x3f40_0000) +0 +0 ≡ ofBits binary32 0x3e80_0000
-unfolding normalizedLerpGainOf normSqOf ofBits add sub mul div lt eq isNan maxOf clampOf sqrtOf
-mixed-at-0 = refl

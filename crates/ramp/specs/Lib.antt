@@ -1,3 +1,2 @@
-pub mod Mixed
 pub mod Ramp
 pub mod Turns

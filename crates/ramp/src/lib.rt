@@ -1,38 +1,15 @@
-// The mixed gain and the ramp: document 01, "The ramp and the mixed gain follow S"; source lines 143 to 153 and 585 to 602.
+// The ramp: document 01, "The ramp and the mixed gain follow S"; source lines 585 to 602.
 ghost use mathlib.Core.Path.{_≡_};
 ghost use mathlib.Core.List.{map, foldl};
 ghost use Prim.Native.Nat.{_+_, _≤_, min, max};
 ghost use lib.ListN.{length, getD, set};
 ghost use lib.Ieee.{nan, binary32, add};
 ghost use Rattle.lists.specs.Lists.{range, between};
-ghost use Rattle.ramp.specs.Mixed.{normSqOf, normalizedLerpGainOf};
 ghost use Rattle.ramp.specs.Ramp.{rampAddOf};
 ghost use Rattle.ramp.specs.Turns.{8·0, sampleOf, steadyTurn, rampTurn};
 
-// Origin: vbap.rs line 152; the squared norm is raised to it.
-const LEAST_NORM: f32 = 1e-12;
-
 // 2^24: up to here every whole number is an f32, and adding 8 to one rounds nothing. Origin: IEEE 754-2019, table 3.5, the 24 digits of binary32.
 const EXACT_COUNTS: usize = 16777216;
-
-// ---- the mixed gain
-
-// The squared norm of the mix at t of two rows with this dot product.
-fn norm_sq(t: f32, dot: f32) -> f32
-    ensures { λ r. ⌜ r ≡ normSqOf t dot ⌝ }
-{
-    let u = 1.0 - t;
-    u * u + t * t + 2.0 * t * u * ieee::clamp(dot)
-}
-
-// The gain between two rows' gains at t, without a power dip.
-// Free to the program: the sign and payload of a NaN; every choice is a NaN.
-pub fn normalized_lerp_gain(from: f32, to: f32, dot: f32, t: f32) -> f32
-    ensures { λ r. ⌜ r ≡ normalizedLerpGainOf from to dot t ⌝ }
-{
-    let at = ieee::clamp(t);
-    (from + (to - from) * at) / root::sqrt32(ieee::max32(norm_sq(at, dot), LEAST_NORM))
-}
 
 // ---- eight samples at once, and their counts
 
@@ -160,7 +137,7 @@ fn one_by_one(dst: &mut [f32], src: &[f32], from: usize, n: usize, g0: f32, step
 {
     let mut i = from;
     while i < n {
-        let count = ieee::f32_from_u64((i + 1) as u64);
+        let count = widths::f32_from_u64((i + 1) as u64);
         dst[i] = sample(dst[i], src[i], g0, step, count);
         i += 1;
     }
@@ -176,7 +153,7 @@ pub fn ramp_add(dst: &mut [f32], src: &[f32], g0: f32, g1: f32)
         steady(dst, src, n, g1);
         return;
     }
-    let step = (g1 - g0) / ieee::f32_from_u64(most(n, 1) as u64);
+    let step = (g1 - g0) / widths::f32_from_u64(most(n, 1) as u64);
     let done = by_eights(&mut *dst, src, n, g0, step);
     one_by_one(dst, src, done, n, g0, step);
 }

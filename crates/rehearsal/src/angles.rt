@@ -8,11 +8,11 @@ const HALF_TURN: f64 = 180.0;
 
 // The radians that a call is given.
 pub fn radians(degrees: f32) -> f32 {
-    ieee::narrow(ieee::widen(degrees) * PI64 / HALF_TURN)
+    widths::narrow(widths::widen(degrees) * PI64 / HALF_TURN)
 }
 
 fn degrees(radians: f64) -> f32 {
-    ieee::narrow(radians * HALF_TURN / PI64)
+    widths::narrow(radians * HALF_TURN / PI64)
 }
 
 // Azimuth of a direction, from the front to the right, -180 to 180; 0 straight up and down, where none is defined.
@@ -20,13 +20,13 @@ pub fn azimuth(x: f32, z: f32) -> f32 {
     if (x == 0.0) & (z == 0.0) {
         return 0.0;
     }
-    degrees(trig::atan2(ieee::widen(x), -ieee::widen(z)))
+    degrees(arctangent::atan2(widths::widen(x), -widths::widen(z)))
 }
 
 // Elevation of a direction, upwards from the horizon.
 pub fn elevation(x: f32, y: f32, z: f32) -> f32 {
-    let right = ieee::widen(x);
-    let back = ieee::widen(z);
+    let right = widths::widen(x);
+    let back = widths::widen(z);
     let level = root::sqrt64(right * right + back * back);
-    degrees(trig::atan2(ieee::widen(y), level))
+    degrees(arctangent::atan2(widths::widen(y), level))
 }

@@ -55,11 +55,11 @@ fn power(row: &[f32]) -> f32 {
     let mut sum = 0.0f64;
     let mut i: usize = 0;
     while i < row.len() {
-        let g = ieee::widen(row[i]);
+        let g = widths::widen(row[i]);
         sum = sum + g * g;
         i += 1;
     }
-    ieee::narrow(sum)
+    widths::narrow(sum)
 }
 
 // ---- the table

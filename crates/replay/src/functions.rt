@@ -71,7 +71,7 @@ fn of_single(place: usize, x: f32) -> Answer {
         5 => one(pattern32(trig::cos32(x))),
         6 => one(truth(ieee::is_finite32(x))),
         7 => one(truth(ieee::sign_bit32(x))),
-        8 => one(pattern64(ieee::widen(x))),
+        8 => one(pattern64(widths::widen(x))),
         _ => {
             let r = trig::sin_cos32(x);
             Answer {
@@ -96,10 +96,10 @@ fn of_double(place: usize, x: f64) -> Answer {
         14 => one(pattern64(ieee::abs64(x))),
         15 => one(pattern64(trig::sin(x))),
         16 => one(pattern64(trig::cos(x))),
-        17 => one(pattern64(trig::atan(x))),
+        17 => one(pattern64(arctangent::atan(x))),
         18 => one(truth(ieee::is_finite64(x))),
         19 => one(truth(ieee::sign_bit64(x))),
-        20 => one(pattern32(ieee::narrow(x))),
+        20 => one(pattern32(widths::narrow(x))),
         _ => {
             let r = trig::sin_cos(x);
             Answer {
@@ -114,7 +114,7 @@ fn of_doubles(place: usize, x: f64, y: f64) -> Answer {
     match place {
         22 => one(pattern64(ieee::max64(x, y))),
         23 => one(pattern64(ieee::rem_euclid64(x, y))),
-        _ => one(pattern64(trig::atan2(x, y))),
+        _ => one(pattern64(arctangent::atan2(x, y))),
     }
 }
 
@@ -125,7 +125,7 @@ pub fn compute(place: usize, a: u64, b: u64) -> Answer {
         10..=12 => of_singles(place, single(a), single(b)),
         13..=21 => of_double(place, double(a)),
         22..=24 => of_doubles(place, double(a), double(b)),
-        25 => one(pattern32(ieee::f32_from_u64(a))),
-        _ => one(pattern64(ieee::f64_from_u64(a))),
+        25 => one(pattern32(widths::f32_from_u64(a))),
+        _ => one(pattern64(widths::f64_from_u64(a))),
     }
 }

@@ -83,7 +83,7 @@ fn check_mix(line: &[u8], c: Cursor) -> Outcome {
     if !(from.good & to.good & dot.good & t.good) {
         return Outcome::Malformed;
     }
-    let got = ramp::normalized_lerp_gain(from.value, to.value, dot.value, t.value);
+    let got = mixed_gain::normalized_lerp_gain(from.value, to.value, dot.value, t.value);
     results::float(line, next, got)
 }
 

@@ -12,7 +12,7 @@ use lib.Ieee.{Float, Format, binary32, binary64, prec, emax, low, nearest, units
 use lib.Ieee.Nearest.{closest}
 use Rattle.root.specs.Root.{roundRoot, sqrtOf}
 use Rattle.ieee.proofs.Laws.{is-lt, is-gt, closest-by, pattern-no-nan}
-use Rattle.ieee.proofs.Grid.{le-or-lt}
+use Rattle.widths.proofs.Grid.{le-or-lt}
 use Rattle.root_digits.proofs.Squares.{sq-lt, sq-suc, sq-twice}
 use Rattle.root_digits.proofs.Digits.{IsNearest, doubled}
 use Rattle.root.proofs.Root.{Sticky, four, round-root}

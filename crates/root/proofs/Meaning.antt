@@ -14,13 +14,13 @@ use lib.Ieee.Nearest.{nearest-ge}
 use lib.Ieee.Fits.{two, kept-lt, nearest-le, down-pos, and-r}
 use lib.Ieee.Exact.{units-val}
 use Rattle.root.specs.Root.{wholeRoot, roundRoot}
-use Rattle.ieee.specs.Meaning.{InSmallest}
+use Rattle.widths.specs.Meaning.{InSmallest}
 use Rattle.root.specs.Meaning.{RootRounded, SqrtNearest}
 use Rattle.ieee.proofs.Laws.{units-fits}
 use Rattle.root_digits.proofs.Squares.{sq-lt, sq-suc, sq-twice}
 use Rattle.root.proofs.Root.{root-is}
 use Rattle.root.proofs.Sqrt.{of-positive}
-use Rattle.ieee.proofs.Grid.{OnGrid, on-grid, gap, closer, Strict, tie-even, Cmp, cmp, picks, leading, le-or-lt, units-size, units-even}
+use Rattle.widths.proofs.Grid.{OnGrid, on-grid, gap, closer, Strict, tie-even, Cmp, cmp, picks, leading, le-or-lt, units-size, units-even}
 
 -- ---- `roundRoot`: what it keeps of the root of n is r * 2 ^ k smallest values
 module _ (f : Format) (n : ℕ) where

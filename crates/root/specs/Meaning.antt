@@ -5,7 +5,7 @@ use Prim.Native.Nat.{ℕ, _+_, _*_, _%_, _^_, _≤_, _<_}
 use mathlib.Core.Bool.{false}
 use lib.Dec.{T}
 use lib.Ieee.{Float, Format, low, fits, toBits}
-use Rattle.ieee.specs.Meaning.{InSmallest}
+use Rattle.widths.specs.Meaning.{InSmallest}
 use Rattle.root.specs.Root.{sqrtOf}
 
 -- r is the root of a value, rounded to the nearest value of the format, a tie to the even one. The exact number of smallest values is the root of n, and is seldom whole:

@@ -27,12 +27,12 @@ fn root_parts(m: u64, j: u32, base: u32, w: u32) -> Parts
     let root = r.root;
     if r.rem == 0 {
         Parts {
-            q: ieee::round_shift(root * 2, w + 1),
+            q: widths::round_shift(root * 2, w + 1),
             k: d + w,
         }
     } else {
         Parts {
-            q: ieee::round_shift(root * 2 + 1, w + 1),
+            q: widths::round_shift(root * 2 + 1, w + 1),
             k: d + w,
         }
     }
@@ -61,10 +61,10 @@ fn sqrt64_by_digits(x: f64) -> f64
     // Origin: 1028 is 1074 - 46, and 2 is 55 - 53
     if e == 0 {
         let p = root_parts(t, 0, 1028, 2);
-        ieee::assemble64(false, p.q, p.k)
+        widths::assemble64(false, p.q, p.k)
     } else {
         let p = root_parts(t + 0x10_0000_0000_0000, (e - 1) as u32, 1028, 2);
-        ieee::assemble64(false, p.q, p.k)
+        widths::assemble64(false, p.q, p.k)
     }
 }
 
@@ -91,10 +91,10 @@ fn sqrt32_by_digits(x: f32) -> f32
     // Origin: 103 is 149 - 46, and 31 is 55 - 24
     if e == 0 {
         let p = root_parts(t as u64, 0, 103, 31);
-        ieee::assemble32(false, p.q as u32, p.k)
+        widths::assemble32(false, p.q as u32, p.k)
     } else {
         let p = root_parts((t + 0x80_0000) as u64, e - 1, 103, 31);
-        ieee::assemble32(false, p.q as u32, p.k)
+        widths::assemble32(false, p.q as u32, p.k)
     }
 }
 
@@ -160,9 +160,9 @@ fn sqrt64_from(x: f64, g: f64) -> f64
     // Origin: the exponent is e - 1 + 1074, of which 52 are in n * 2^52. At 1022 x lies from 1 to 4, and the result is g
     let k = (e + 1021) / 2;
     if k == 1022 {
-        return ieee::assemble64(false, q, 1022);
+        return widths::assemble64(false, q, 1022);
     }
-    ieee::assemble64(false, q, k as u32)
+    widths::assemble64(false, q, k as u32)
 }
 
 // x times or over a power of 4, from 1 to 4; of what has no root, or is too small, any number.
@@ -225,5 +225,5 @@ pub fn sqrt32(x: f32) -> f32
         return sqrt32_by_digits(x);
     }
     // Origin: the exponent is e - 1 + 149, of which 23 are in n * 2^23
-    ieee::assemble32(false, q as u32, (e + 125) / 2)
+    widths::assemble32(false, q as u32, (e + 125) / 2)
 }

@@ -4,7 +4,7 @@ use mathlib.Core.Logic.{inl, inr}
 use Prim.Native.Nat.{ℕ, _+_, _-_, _*_, _/_, _%_, _^_, _≤_, _<_}
 use native.Mathlib.Nat.{mul-add, add-mul, mul-comm, mul-right-comm, mul-mul-mul-comm, mul-le-mul, mul-one, eq-zero-or-pos}
 use native.Mathlib.Omega.{arith}
-use Rattle.ieee.proofs.Grid.{le-or-lt}
+use Rattle.widths.proofs.Grid.{le-or-lt}
 
 -- q is the root of n to the nearest whole number
 abbrev pub IsNearest : ℕ → ℕ → Type 0

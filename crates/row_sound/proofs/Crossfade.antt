@@ -11,7 +11,7 @@ use lib.Ieee.{Float, binary32, unlike, sub, mul}
 use lib.Ieee.Scale.{grid, overflow}
 use Rattle.ieee.specs.Values.{1·0}
 use Rattle.ieee.specs.Order.{squareOf, powi4Of}
-use Rattle.ieee.proofs.Grid.{le-or-lt}
+use Rattle.widths.proofs.Grid.{le-or-lt}
 use Rattle.planar_row.specs.PlanarRow.{shaped}
 use Rattle.bounds.proofs.Units.{Val, round-Val, mul-round, add-round, sub-rest, sub-is, neg-val}
 use Rattle.bounds.proofs.Held.{Held, held, held-val, grid-le, grid-ge}

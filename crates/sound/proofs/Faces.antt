@@ -9,7 +9,7 @@ use lib.ListN.{length}
 use lib.Ieee.{Float, binary64, mul, div, lt}
 use Rattle.lists.specs.Lists.{range, between, Each}
 use Rattle.ieee.specs.Values.{abs}
-use Rattle.ieee.specs.Narrow.{narrowOf}
+use Rattle.widths.specs.Narrow.{narrowOf}
 use Rattle.vector.specs.Vector.{Vector, Points, dotOf, dotIn, crossOf, lengthOf}
 use Rattle.faces.specs.Faces.{tiny, leastDistance, Plane, point, others, rawNormal, planeThrough, allBelow, allAbove, outward}
 use Rattle.fan.specs.Fan.{coplanar, inFan}

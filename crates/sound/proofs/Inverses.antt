@@ -6,7 +6,7 @@ use lib.Dec.{T, lit≤, lit<}
 use lib.Ieee.{Float, binary32, binary64, mul, div, lt, fits, ofBits}
 use lib.Ieee.Scale.{overflow}
 use Rattle.ieee.specs.Values.{abs}
-use Rattle.ieee.specs.Narrow.{narrowOf}
+use Rattle.widths.specs.Narrow.{narrowOf}
 use Rattle.vector.specs.Vector.{minor}
 use Rattle.faces.specs.Faces.{tiny}
 use Rattle.bounds.proofs.Units.{Val, unitsOf, narrow-fits}

@@ -11,7 +11,7 @@ use lib.Ieee.{Float, nan, inf, fin, binary32, binary64, fits, isNan, le, lt, eq}
 use Rattle.lists.specs.Lists.{range, between, every, member, filled, Each}
 use Rattle.lists.proofs.Ranges.{length-between}
 use Rattle.ieee.specs.Values.{+0, 1·0, abs}
-use Rattle.ieee.specs.Narrow.{narrowOf}
+use Rattle.widths.specs.Narrow.{narrowOf}
 use Rattle.vector.specs.Vector.{Vector}
 use Rattle.vector.specs.Speakers.{Speaker, slotsOf, dirsOf}
 use Rattle.planar.specs.declared.Law.{Law}

@@ -13,9 +13,9 @@ use lib.ListN.{length, getD, length-map, List·getD-map}
 use lib.Ieee.{Float, nan, binary32, binary64, sub, neg, div, lt, fits, ofBits}
 use Rattle.lists.specs.Lists.{range, member, Each}
 use Rattle.ieee.specs.Values.{abs}
-use Rattle.ieee.specs.Narrow.{narrowOf}
+use Rattle.widths.specs.Narrow.{narrowOf}
 use Rattle.ieee.specs.Remainder.{remEuclidOf}
-use Rattle.ieee.proofs.Grid.{le-or-lt}
+use Rattle.widths.proofs.Grid.{le-or-lt}
 use Rattle.trig.specs.Pi.{twoPi}
 use Rattle.trig.specs.Sine.{sinOf, cosOf}
 use Rattle.vector.specs.Vector.{z, minor}

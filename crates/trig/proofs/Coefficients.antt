@@ -8,7 +8,6 @@ use Rattle.ieee.specs.Values.{2·0}
 use Rattle.trig.specs.Pi.{PI64, twoPi, halfPi}
 use Rattle.trig.specs.Series.{coefficients, factorial}
 use Rattle.trig.specs.Sine.{sineCoefficients, cosineCoefficients}
-use Rattle.trig.specs.Arctangent.{arctangentCoefficients}
 
 abbrev pub sineTable : List Float
 sineTable =
@@ -36,21 +35,9 @@ cosineTable =
     ∷ ofBits binary64 0x3d2a_e7f3_e733_b81f
     ∷ []
 
-abbrev pub arctangentTable : List Float
-arctangentTable =
-    ofBits binary64 0x3ff0_0000_0000_0000
-    ∷ ofBits binary64 0xbfd5_5555_5555_5555
-    ∷ ofBits binary64 0x3fc9_9999_9999_999a
-    ∷ ofBits binary64 0xbfc2_4924_9249_2492
-    ∷ ofBits binary64 0x3fbc_71c7_1c71_c71c
-    ∷ ofBits binary64 0xbfb7_45d1_745d_1746
-    ∷ ofBits binary64 0x3fb3_b13b_13b1_3b14
-    ∷ ofBits binary64 0xbfb1_1111_1111_1111
-    ∷ []
-
-pub tables : (sineTable ≡ sineCoefficients) × (cosineTable ≡ cosineCoefficients) × (arctangentTable ≡ arctangentCoefficients)
-unfolding sineCoefficients cosineCoefficients arctangentCoefficients coefficients factorial round ofBits
-tables = (refl, refl, refl)
+pub tables : (sineTable ≡ sineCoefficients) × (cosineTable ≡ cosineCoefficients)
+unfolding sineCoefficients cosineCoefficients coefficients factorial round ofBits
+tables = (refl, refl)
 
 -- pi lies between the two decimals, and both round to PI64
 pub PI64-nearest : (round binary64 false 314159265358979323846 (10 ^ 20) ≡ PI64) × (round binary64 false 314159265358979323847 (10 ^ 20) ≡ PI64)

@@ -1,14 +1,10 @@
--- NaN and the infinities follow from the steps: the sine and cosine of neither is a number, nor is the angle where one part is NaN or both are infinite. Assumes nothing.
-use mathlib.Core.Path.{_≡_, refl, ap, _∙_}
-use mathlib.Core.Bool.{Bool, true, false, cond, _&&_}
-use lib.Ieee.{Float, nan, inf, fin, binary64, add, sub, neg, mul, div, rem, lt, le, eq, ofBits}
-use Rattle.ieee.specs.Values.{+0, abs, signBit}
-use Rattle.trig.specs.Pi.{PI64, halfPi}
+-- NaN and the infinities follow from the steps: the sine and cosine of neither is a number. Assumes nothing.
+use mathlib.Core.Path.{_≡_}
+use mathlib.Core.Bool.{Bool}
+use lib.Ieee.{nan, inf, add, sub, rem}
 use Rattle.trig.specs.Sine.{remainder, quarter, reduced, mod4, sinOf, cosOf}
-use Rattle.trig.specs.Arctangent.{halvedOf, eightfoldOf, atanOf, ratioOf, firstQuadrantOf, withSignOfX, withSignOfY, atan2Of}
 use Rattle.trig.proofs.Turns.{sineBy-nan, cosineBy-nan}
 
--- ---- sine and cosine
 pub sinOf-nan : (sinOf nan ≡ nan) × (cosOf nan ≡ nan)
 unfolding sinOf cosOf reduced remainder rem sub add
 sinOf-nan = (sineBy-nan (mod4 (quarter nan)), cosineBy-nan (mod4 (quarter nan)))
@@ -16,65 +12,3 @@ sinOf-nan = (sineBy-nan (mod4 (quarter nan)), cosineBy-nan (mod4 (quarter nan)))
 pub sinOf-inf : (s : Bool) → (sinOf (inf s) ≡ nan) × (cosOf (inf s) ≡ nan)
 unfolding sinOf cosOf reduced remainder rem sub add
 sinOf-inf s = (sineBy-nan (mod4 (quarter (inf s))), cosineBy-nan (mod4 (quarter (inf s))))
-
--- ---- arctangent
-pub atanOf-nan : atanOf nan ≡ nan
-unfolding atanOf halvedOf eightfoldOf div mul
-atanOf-nan = refl
-
--- ---- atan2
-signs-nan : (y x : Float) → withSignOfY y (withSignOfX x nan) ≡ nan
-unfolding withSignOfX withSignOfY sub add neg ofBits
-signs-nan y x = go (signBit y) (signBit x)
-  where
-    go : (s t : Bool) → cond s (neg (cond t (sub binary64 PI64 nan) nan)) (cond t (sub binary64 PI64 nan) nan) ≡ nan
-    go true true = refl
-    go true false = refl
-    go false true = refl
-    go false false = refl
-
--- where the first quadrant's angle is NaN
-by-first : (y x : Float) → firstQuadrantOf (abs y) (abs x) ≡ nan → atan2Of y x ≡ nan
-unfolding atan2Of
-by-first y x e = ap (λ (a : Float). withSignOfY y (withSignOfX x a)) e ∙ signs-nan y x
-
-minus-nan : {q : Float} → q ≡ nan → sub binary64 halfPi (atanOf q) ≡ nan
-unfolding sub add neg ofBits
-minus-nan e = ap (λ (q : Float). sub binary64 halfPi (atanOf q)) e ∙ ap (sub binary64 halfPi) atanOf-nan
-
-ratio-of-nan : (x : Float) → ratioOf nan x ≡ nan
-unfolding ratioOf eq div
-ratio-of-nan x = refl
-
-ratio-by-nan : (y : Float) → ratioOf y nan ≡ nan
-unfolding ratioOf eq div
-ratio-by-nan y = go (eq y +0) (by y)
-  where
-    by : (y : Float) → div binary64 y nan ≡ nan
-    by nan = refl
-    by (inf s) = refl
-    by (fin s m e) = refl
-
-    go : (b : Bool) → div binary64 y nan ≡ nan → cond (b && false) +0 (div binary64 y nan) ≡ nan
-    go true e = e
-    go false e = e
-
-pub atan2Of-nan-y : (x : Float) → atan2Of nan x ≡ nan
-unfolding firstQuadrantOf abs le lt eq
-atan2Of-nan-y x = by-first nan x (minus-nan (ratio-by-nan (abs x)))
-
-not-above : (y : Float) → le y nan ≡ false
-unfolding le lt eq
-not-above nan = refl
-not-above (inf s) = refl
-not-above (fin s m e) = refl
-
-pub atan2Of-nan-x : (y : Float) → atan2Of y nan ≡ nan
-unfolding firstQuadrantOf abs
-atan2Of-nan-x y =
-    by-first y nan
-    (ap (λ (b : Bool). cond b (atanOf (ratioOf (abs y) nan)) (sub binary64 halfPi (atanOf (ratioOf nan (abs y))))) (not-above (abs y)) ∙ minus-nan (ratio-of-nan (abs y)))
-
-pub atan2Of-infinities : (s t : Bool) → atan2Of (inf s) (inf t) ≡ nan
-unfolding firstQuadrantOf ratioOf abs le eq div
-atan2Of-infinities s t = by-first (inf s) (inf t) atanOf-nan

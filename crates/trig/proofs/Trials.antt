@@ -1,12 +1,9 @@
 -- Worked values of the stand-ins, by computation: the ends of the quarters, the zeros of both signs, a large argument. Assumes nothing.
 use mathlib.Core.Path.{_≡_, refl}
 use Prim.Native.Nat.{ℕ}
-use lib.Ieee.{binary64, round, add, sub, neg, mul, div, rem, eq, le, ofInt, ofBits}
-use Rattle.ieee.specs.Values.{abs, signBit}
-use Rattle.root.specs.Root.{sqrtOf}
+use lib.Ieee.{binary64, round, add, sub, neg, mul, div, rem, ofInt, ofBits}
 use Rattle.trig.specs.Series.{coefficients, sumOf, factorial}
 use Rattle.trig.specs.Sine.{S, C, sineCoefficients, cosineCoefficients, remainder, quotient, nearestWhole, quarter, reduced, mod4, sineBy, cosineBy, sinOf, cosOf}
-use Rattle.trig.specs.Arctangent.{arctangentCoefficients, halvedOf, eightfoldOf, atanOf, ratioOf, firstQuadrantOf, withSignOfX, withSignOfY, atan2Of}
 
 -- v, its sine and its cosine, as bit patterns
 abbrev SineTrial : ℕ → ℕ → ℕ → Type 0
@@ -26,12 +23,3 @@ zeros = ((refl, refl), (refl, refl), (refl, refl), (refl, refl))
 negative-and-large : SineTrial 0xc00f_6a7a_2955_385e 0x3fe6_a09e_667f_3bcc 0xbfe6_a09e_667f_3bcd × SineTrial 0x4480_f0cf_064d_d592 0x3feb_f809_b254_97f6 0x3fdf_1895_52bf_e9ff
 unfolding sinOf cosOf sineBy cosineBy mod4 reduced quarter nearestWhole quotient remainder S C sineCoefficients cosineCoefficients coefficients factorial sumOf round add sub neg mul div rem ofInt ofBits
 negative-and-large = ((refl, refl), (refl, refl))
-
--- y, x and the angle
-abbrev AngleTrial : ℕ → ℕ → ℕ → Type 0
-AngleTrial y x a = atan2Of (ofBits binary64 y) (ofBits binary64 x) ≡ ofBits binary64 a
-
--- two zeros of each sign; (−3, −0.5)
-angles : AngleTrial 0 0 0 × AngleTrial 0x8000_0000_0000_0000 0 0x8000_0000_0000_0000 × AngleTrial 0 0x8000_0000_0000_0000 0x4009_21fb_5444_2d18 × AngleTrial 0x8000_0000_0000_0000 0x8000_0000_0000_0000 0xc009_21fb_5444_2d18 × AngleTrial 0xc008_0000_0000_0000 0xbfe0_0000_0000_0000 0xbffb_c66e_44cb_c074
-unfolding atan2Of withSignOfX withSignOfY firstQuadrantOf ratioOf atanOf eightfoldOf halvedOf arctangentCoefficients coefficients sumOf abs signBit sqrtOf round add sub neg mul div eq le ofBits
-angles = (refl, refl, refl, refl, refl)

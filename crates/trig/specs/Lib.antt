@@ -1,4 +1,3 @@
 pub mod Pi
 pub mod Series
 pub mod Sine
-pub mod Arctangent

@@ -38,7 +38,11 @@ pub fn unit(p: [f32; 3]) -> Direction
 fn widened(p: [f32; 3]) -> [f64; 3]
     ensures { λ r. ⌜ r ≡ p ⌝ }
 {
-    [ieee::widen(p[0]), ieee::widen(p[1]), ieee::widen(p[2])]
+    [
+        widths::widen(p[0]),
+        widths::widen(p[1]),
+        widths::widen(p[2]),
+    ]
 }
 
 pub fn cross(a: [f64; 3], b: [f64; 3]) -> [f64; 3]

@@ -2,7 +2,7 @@
 use Prim.Native.Nat.{_-_, _≤_}
 use mathlib.Core.Path.{_≡_, refl}
 use lib.ListN.{length, length-set}
-use Rattle.ramp.specs.Mixed.{normalizedLerpGainOf}
+use Rattle.mixed_gain.specs.Mixed.{normalizedLerpGainOf}
 use Rattle.arrays.specs.Arrays.{at, Filled}
 use Rattle.arrays.proofs.Filling.{filled-none, filled-more, exactly}
 use borrow.Author.Needs.{needs}

@@ -13,7 +13,7 @@ use Rattle.lists.specs.Lists.{filled}
 use Rattle.lists.proofs.Collect.{map-snoc}
 use Rattle.lists.proofs.Filled.{set-filled-at}
 use Rattle.ieee.specs.Values.{+0}
-use Rattle.ieee.specs.Narrow.{narrowOf}
+use Rattle.widths.specs.Narrow.{narrowOf}
 use Rattle.layout.proofs.narrowed.Statement.{statement}
 use Rattle.layout.proofs.narrowed.Tie as tie
 

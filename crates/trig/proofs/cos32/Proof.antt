@@ -1,7 +1,7 @@
 -- `trig::cos32` meets its contract: widened, computed, narrowed. Assumes nothing.
 use mathlib.Core.Path.{ap, _∙_}
 use borrow.Author.Needs.{needs}
-use Rattle.ieee.specs.Narrow.{narrowOf}
+use Rattle.widths.specs.Narrow.{narrowOf}
 use Rattle.trig.specs.Sine.{cosOf, cos32Of}
 use Rattle.trig.proofs.cos32.Statement.{statement}
 use Rattle.trig.proofs.cos32.Tie as tie

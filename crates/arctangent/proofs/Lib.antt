@@ -1,0 +1,4 @@
+pub mod Branches
+pub mod Coefficients
+pub mod NotNumbers
+pub mod Trials

@@ -1,0 +1,23 @@
+// The mixed gain: document 01, "The ramp and the mixed gain follow S"; source lines 143 to 153.
+ghost use mathlib.Core.Path.{_≡_};
+ghost use Rattle.mixed_gain.specs.Mixed.{normSqOf, normalizedLerpGainOf};
+
+// Origin: vbap.rs line 152; the squared norm is raised to it.
+const LEAST_NORM: f32 = 1e-12;
+
+// The squared norm of the mix at t of two rows with this dot product.
+fn norm_sq(t: f32, dot: f32) -> f32
+    ensures { λ r. ⌜ r ≡ normSqOf t dot ⌝ }
+{
+    let u = 1.0 - t;
+    u * u + t * t + 2.0 * t * u * ieee::clamp(dot)
+}
+
+// The gain between two rows' gains at t, without a power dip.
+// Free to the program: the sign and payload of a NaN; every choice is a NaN.
+pub fn normalized_lerp_gain(from: f32, to: f32, dot: f32, t: f32) -> f32
+    ensures { λ r. ⌜ r ≡ normalizedLerpGainOf from to dot t ⌝ }
+{
+    let at = ieee::clamp(t);
+    (from + (to - from) * at) / root::sqrt32(ieee::max32(norm_sq(at, dot), LEAST_NORM))
+}
