@@ -15,7 +15,7 @@ use lib.Ieee.Back.{round-whole}
 use lib.Ieee.Scale.{round-same}
 use Rattle.lists.specs.Lists.{range, from}
 use Rattle.ramp.specs.Ramp.{count32}
-use Rattle.ramp.specs.Turns.{8·0}
+use Rattle.eights.specs.Eights.{8·0}
 use Rattle.lists.proofs.Ranges.{getD-map-range, same-places}
 
 cross : (X Y E D a b : ℕ) → X * 1 ≡ a * E → Y * 1 ≡ b * D → (X * D + Y * E) * 1 ≡ (a + b) * (E * D)

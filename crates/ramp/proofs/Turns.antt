@@ -10,7 +10,8 @@ use lib.Seq.{drop-cons, set-at, getD-at, append-snoc, getD-set-other}
 use lib.Ieee.{Float, nan, binary32, add, sub, mul, div, eq}
 use Rattle.lists.specs.Lists.{from, range, between}
 use Rattle.ramp.specs.Ramp.{count32, rampGain, rampAddOf}
-use Rattle.ramp.specs.Turns.{sampleOf, steadyTurn, rampTurn}
+use Rattle.eights.specs.Eights.{sampleOf}
+use Rattle.ramp.specs.Turns.{steadyTurn, rampTurn}
 use Rattle.lists.proofs.Ranges.{range-none, range-snoc, between-none, between-snoc, between-append, range-between, map-range-snoc, length-map-range, getD-map-range}
 use Rattle.lists.proofs.Collect.{foldl-snoc}
 use Rattle.ramp.proofs.Counts.{countsFrom}
@@ -73,10 +74,6 @@ module _ (f : ℕ → Float → Float) where
       (rw (map-range-snoc (λ i. f i (getD l i nan)) n, add-one n) (sym (append-snoc made (f n (getD l n nan)) (drop (suc n) l)))))
 
 -- ---- the turns of the ramp
-
-pub eight-same : {a b c d e f g h a' b' c' d' e' f' g' h' : Float} → a ≡ a' → b ≡ b' → c ≡ c' → d ≡ d' → e ≡ e' → f ≡ f' → g ≡ g' → h ≡ h'
-    → a ∷ b ∷ c ∷ d ∷ e ∷ f ∷ g ∷ h ∷ [] ≡ a' ∷ b' ∷ c' ∷ d' ∷ e' ∷ f' ∷ g' ∷ h' ∷ []
-eight-same p q r s t u v w = rw (p, q, r, s, t, u, v, w)
 
 module _ (src dst : List Float) (g0 : Float) where
   -- eight samples, loaded, mixed at their counts and stored, are eight turns

@@ -2,16 +2,9 @@
 use Prim.Native.Nat.{ℕ, _+_}
 use mathlib.Core.List.{List}
 use lib.ListN.{getD, set}
-use lib.Ieee.{Float, nan, binary32, add, mul, ofBits}
+use lib.Ieee.{Float, nan, binary32, add, mul}
+use Rattle.eights.specs.Eights.{sampleOf}
 use Rattle.ramp.specs.Ramp.{count32}
-
--- 8. Origin: eight samples are taken at once.
-abbrev pub 8·0 : Float
-8·0 = ofBits binary32 0x4100_0000
-
--- d + s·(g0 + step·count)
-unfoldable pub sampleOf : Float → Float → Float → Float → Float → Float
-sampleOf d s g0 step count = add binary32 d (mul binary32 s (add binary32 g0 (mul binary32 step count)))
 
 -- place i of dst, at one gain and at a moving one
 unfoldable pub steadyTurn : List Float → Float → List Float → ℕ → List Float

@@ -6,85 +6,10 @@ ghost use lib.ListN.{length, getD, set};
 ghost use lib.Ieee.{nan, binary32, add};
 ghost use Rattle.lists.specs.Lists.{range, between};
 ghost use Rattle.ramp.specs.Ramp.{rampAddOf};
-ghost use Rattle.ramp.specs.Turns.{8·0, sampleOf, steadyTurn, rampTurn};
+ghost use Rattle.ramp.specs.Turns.{steadyTurn, rampTurn};
 
 // 2^24: up to here every whole number is an f32, and adding 8 to one rounds nothing. Origin: IEEE 754-2019, table 3.5, the 24 digits of binary32.
 const EXACT_COUNTS: usize = 16777216;
-
-// ---- eight samples at once, and their counts
-
-// The eight samples from i on.
-fn load(s: &[f32], i: usize) -> [f32; 8]
-    requires { ⌜ i + 8 ≤ length (now s) ⌝ }
-    ensures { λ r. ⌜ r ≡ map (λ k. getD (now (s .entry)) (i + k) nan) (range 8) ⌝ }
-{
-    [
-        s[i],
-        s[i + 1],
-        s[i + 2],
-        s[i + 3],
-        s[i + 4],
-        s[i + 5],
-        s[i + 6],
-        s[i + 7],
-    ]
-}
-
-// Eight samples, stored from i on.
-fn store(d: &mut [f32], i: usize, v: [f32; 8])
-    requires { ⌜ i + 8 ≤ length (now d) ⌝ }
-    ensures { λ r. ⌜ now (d .exit) ≡ foldl (λ l k. set l (i + k) (getD v k nan)) (now (d .entry)) (range 8) ⌝ }
-{
-    d[i] = v[0];
-    d[i + 1] = v[1];
-    d[i + 2] = v[2];
-    d[i + 3] = v[3];
-    d[i + 4] = v[4];
-    d[i + 5] = v[5];
-    d[i + 6] = v[6];
-    d[i + 7] = v[7];
-}
-
-// One sample at the gain of its count.
-fn sample(d: f32, s: f32, g0: f32, step: f32, count: f32) -> f32
-    ensures { λ r. ⌜ r ≡ sampleOf d s g0 step count ⌝ }
-{
-    d + s * (g0 + step * count)
-}
-
-// Eight samples at the gains of their counts.
-fn mixed(d: [f32; 8], s: [f32; 8], g0: f32, step: f32, c: [f32; 8]) -> [f32; 8]
-    ensures { λ r. ⌜ r ≡ map (λ k. sampleOf (getD d k nan) (getD s k nan) g0 step (getD c k nan)) (range 8) ⌝ }
-{
-    [
-        sample(d[0], s[0], g0, step, c[0]),
-        sample(d[1], s[1], g0, step, c[1]),
-        sample(d[2], s[2], g0, step, c[2]),
-        sample(d[3], s[3], g0, step, c[3]),
-        sample(d[4], s[4], g0, step, c[4]),
-        sample(d[5], s[5], g0, step, c[5]),
-        sample(d[6], s[6], g0, step, c[6]),
-        sample(d[7], s[7], g0, step, c[7]),
-    ]
-}
-
-// The counts of the next eight.
-fn onward(c: [f32; 8]) -> [f32; 8]
-    ensures { λ r. ⌜ r ≡ map (λ k. add binary32 (getD c k nan) 8·0) (range 8) ⌝ }
-{
-    [
-        c[0] + 8.0,
-        c[1] + 8.0,
-        c[2] + 8.0,
-        c[3] + 8.0,
-        c[4] + 8.0,
-        c[5] + 8.0,
-        c[6] + 8.0,
-        c[7] + 8.0,
-    ]
-}
-
-// ---- the ramp
 
 fn fewest(a: usize, b: usize) -> usize
     ensures { λ r. ⌜ r ≡ min a b ⌝ }
@@ -120,10 +45,10 @@ fn by_eights(dst: &mut [f32], src: &[f32], n: usize, g0: f32, step: f32) -> usiz
     let mut i: usize = 0;
     let mut c: [f32; 8] = [1.0, 2.0, 3.0, 4.0, 5.0, 6.0, 7.0, 8.0];
     while m - i >= 8 {
-        let s = load(src, i);
-        let d = load(&*dst, i);
-        store(&mut *dst, i, mixed(d, s, g0, step, c));
-        let next = onward(c);
+        let s = eights::load(src, i);
+        let d = eights::load(&*dst, i);
+        eights::store(&mut *dst, i, eights::mixed(d, s, g0, step, c));
+        let next = eights::onward(c);
         c = next;
         i += 8;
     }
@@ -138,7 +63,7 @@ fn one_by_one(dst: &mut [f32], src: &[f32], from: usize, n: usize, g0: f32, step
     let mut i = from;
     while i < n {
         let count = widths::f32_from_u64((i + 1) as u64);
-        dst[i] = sample(dst[i], src[i], g0, step, count);
+        dst[i] = eights::sample(dst[i], src[i], g0, step, count);
         i += 1;
     }
 }

@@ -1,9 +1,9 @@
--- `ramp::load` meets its contract: the range of 8, counted out, names the eight places that are read. Assumes nothing.
+-- `eights::load` meets its contract: the range of 8, counted out, names the eight places that are read. Assumes nothing.
 use native.Mathlib.Nat.{add-zero}
 use borrow.Author.Needs.{needs}
 use Rattle.lists.specs.Lists.{range, from}
-use Rattle.ramp.proofs.load.Statement.{statement}
-use Rattle.ramp.proofs.load.Tie as tie
+use Rattle.eights.proofs.load.Statement.{statement}
+use Rattle.eights.proofs.load.Tie as tie
 
 mul-t3 : tie.Need-mul-t3
 mul-t3 c = search needs

@@ -1,11 +1,11 @@
--- `ramp::store` meets its contract: the range of 8, counted out, names the eight places that are stored. Assumes nothing.
+-- `eights::store` meets its contract: the range of 8, counted out, names the eight places that are stored. Assumes nothing.
 use native.Mathlib.Nat.{add-zero}
 use native.Mathlib.Omega.{arith}
 use borrow.Author.Needs.{needs}
 use lib.ListN.{length-set}
 use Rattle.lists.specs.Lists.{range, from}
-use Rattle.ramp.proofs.store.Statement.{statement}
-use Rattle.ramp.proofs.store.Tie as tie
+use Rattle.eights.proofs.store.Statement.{statement}
+use Rattle.eights.proofs.store.Tie as tie
 
 array-read-d : tie.Need-array-read-d
 array-read-d c = search needs

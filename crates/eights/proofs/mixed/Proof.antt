@@ -1,9 +1,9 @@
--- `ramp::mixed` meets its contract: each of the eight is what `sample` ensures. Assumes nothing.
+-- `eights::mixed` meets its contract: each of the eight is what `sample` ensures. Assumes nothing.
 use borrow.Author.Needs.{needs}
 use Rattle.lists.specs.Lists.{range, from}
-use Rattle.ramp.proofs.Turns.{eight-same}
-use Rattle.ramp.proofs.mixed.Statement.{statement}
-use Rattle.ramp.proofs.mixed.Tie as tie
+use Rattle.eights.proofs.Eights.{eight-same}
+use Rattle.eights.proofs.mixed.Statement.{statement}
+use Rattle.eights.proofs.mixed.Tie as tie
 
 array-read-sample : tie.Need-array-read-sample
 array-read-sample c = search needs

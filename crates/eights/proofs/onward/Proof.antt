@@ -1,9 +1,9 @@
--- `ramp::onward` meets its contract: the range of 8, counted out, names the eight counts that are raised. Assumes nothing.
+-- `eights::onward` meets its contract: the range of 8, counted out, names the eight counts that are raised. Assumes nothing.
 use mathlib.Core.Path.{refl}
 use borrow.Author.Needs.{needs}
 use Rattle.lists.specs.Lists.{range, from}
-use Rattle.ramp.proofs.onward.Statement.{statement}
-use Rattle.ramp.proofs.onward.Tie as tie
+use Rattle.eights.proofs.onward.Statement.{statement}
+use Rattle.eights.proofs.onward.Tie as tie
 
 array-read-t5 : tie.Need-array-read-t5
 array-read-t5 c = search needs

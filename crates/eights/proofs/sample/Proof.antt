@@ -1,0 +1,12 @@
+-- `eights::sample` meets its contract: the operations are the definition's. Assumes nothing.
+use mathlib.Core.Path.{refl}
+use Rattle.eights.specs.Eights.{sampleOf}
+use Rattle.eights.proofs.sample.Statement.{statement}
+use Rattle.eights.proofs.sample.Tie as tie
+
+returns : tie.Need-returns
+unfolding sampleOf
+returns c = refl
+
+pub sample-spec : {M : Type 1} → statement M
+sample-spec = tie.close (tie.spec returns)
