@@ -4,23 +4,19 @@ use mathlib.Core.Path.{_≡_, refl, sym, ap, _∙_}
 use mathlib.Core.List.{List, [], _∷_, _++_, map, append-assoc}
 use lib.Ieee.{Float, nan}
 use lib.ListN.{length, getD, set, drop}
-use lib.Seq.{drop-cons, set-append-seam}
-use native.Mathlib.Numerals.{add-one}
+use lib.Seq.{set-append-seam}
 use Rattle.lists.specs.Lists.{range}
 use Rattle.lists.proofs.Ranges.{range-none, length-map-range, map-range-snoc}
+use Rattle.lists.proofs.Ends.{drop-next}
 use Rattle.arrays.specs.Arrays.{Filled}
 
 pub filled-none : (g : ℕ → Float) (d : List Float) → Filled 0 g d d
 filled-none g d = rw range-none refl
 
--- what is left of a list, its first element apart
-drop-next : (l : List Float) (k : ℕ) → k < length l → drop k l ≡ getD l k nan ∷ drop (k + 1) l
-drop-next l k h = drop-cons l k nan h ∙ ap (λ (n : ℕ). getD l k nan ∷ drop n l) (sym (add-one k))
-
 pub filled-more : (g : ℕ → Float) (before d : List Float) (i : ℕ) (v : Float) → i < length before → v ≡ g i → Filled i g before d → Filled (i + 1) g before (set d i v)
 filled-more g before d i v h e f =
     let m = map g (range i) in
-    ap (λ (l : List Float). set l i v) (f ∙ ap (λ (l : List Float). m ++ l) (drop-next before i h))
+    ap (λ (l : List Float). set l i v) (f ∙ ap (λ (l : List Float). m ++ l) (drop-next before i nan h))
     ∙ ap (λ (k : ℕ). set (m ++ getD before i nan ∷ drop (i + 1) before) k v) (sym (length-map-range g i))
     ∙ set-append-seam m (getD before i nan) (drop (i + 1) before) v
     ∙ ap (λ (x : Float). m ++ x ∷ drop (i + 1) before) e

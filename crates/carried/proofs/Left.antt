@@ -17,7 +17,7 @@ use Rattle.session.specs.Session.{standingCount, numberOf, at, restood, placed,
 use Rattle.session.specs.Answers.{answerOf}
 use Rattle.session.proofs.Answers.{after-refused}
 use Rattle.carried.specs.Sessions.{Left, placeTakeBack}
-use Rattle.carried.proofs.Rows.{drop-next}
+use Rattle.lists.proofs.Ends.{drop-next}
 
 -- ---- one call
 
@@ -100,16 +100,16 @@ module _ (s : Session) (i : ℕ) (az el : List Float) (k : ℕ) (p : Answer) whe
   module _ (h : k < length az) (g : k < length el) (e : p ≡ answerOf s (place i (getD az k nan) (getD el k nan))) where
     pub place-refused : (p .number ≡ 0 → ⊥) → placeTakeBack s i (drop k az) (drop k el) ≡ p
     unfolding placeTakeBack
-    place-refused n = rw (drop-next az k h, drop-next el k g, ← e, ne-eqb (p .number) 0 n)
+    place-refused n = rw (drop-next az k nan h, drop-next el k nan g, ← e, ne-eqb (p .number) 0 n)
 
     module _ (t : Answer) (f : t ≡ answerOf (p .session) (takeBack i)) (z : p .number ≡ 0) where
       pub take-refused : (t .number ≡ 0 → ⊥) → placeTakeBack s i (drop k az) (drop k el) ≡ t
       unfolding placeTakeBack
-      take-refused n = rw (drop-next az k h, drop-next el k g, ← e, ← f, eq-eqb (p .number) 0 z, ne-eqb (t .number) 0 n)
+      take-refused n = rw (drop-next az k nan h, drop-next el k nan g, ← e, ← f, eq-eqb (p .number) 0 z, ne-eqb (t .number) 0 n)
 
       pub both-accepted : t .number ≡ 0 → placeTakeBack s i (drop k az) (drop k el) ≡ placeTakeBack (t .session) i (drop (k + 1) az) (drop (k + 1) el)
       unfolding placeTakeBack
-      both-accepted n = rw (drop-next az k h, drop-next el k g, ← e, ← f, eq-eqb (p .number) 0 z, eq-eqb (t .number) 0 n)
+      both-accepted n = rw (drop-next az k nan h, drop-next el k nan g, ← e, ← f, eq-eqb (p .number) 0 z, eq-eqb (t .number) 0 n)
 
 module _ (s : Session) (i : ℕ) (az el : List Float) (k : ℕ) where
   abbrev done : Answer

@@ -1,23 +1,19 @@
 -- Rows of several directions: one turn of the loop, its early end, and its end. Assumes nothing.
 use Prim.Native.Nat.{ℕ, _+_, _-_, _≤_, _<_, min}
-use mathlib.Core.Path.{_≡_, refl, sym, ap, _∙_}
+use mathlib.Core.Path.{_≡_, refl, _∙_}
 use mathlib.Core.Bool.{Bool, true, false}
 use mathlib.Core.List.{List, [], _∷_, _++_, append-assoc}
-use native.Mathlib.Numerals.{add-one}
 use native.Mathlib.Omega.{arith}
 use borrow.Author.Tests.{le-leb, lt-leb, leb-true, leb-false}
 use borrow.Rule.Slice.PartMut.{midOf, putMid}
 use lib.Dec.{leb}
 use lib.Ieee.{Float, nan}
 use lib.ListN.{length, getD, take, drop, take-append-drop, length-append, length-drop, drop-of-length-le}
-use lib.Seq.{drop-cons, length-take-le, take-at, drop-at}
+use lib.Seq.{length-take-le, take-at, drop-at}
+use Rattle.lists.proofs.Ends.{drop-next}
 use Rattle.panner.specs.declared.VbapPanner.{VbapPanner}
 use Rattle.gains.specs.Gains.{gainsBuffer}
 use Rattle.carried.specs.Rows.{rowsOf}
-
--- what is left of a list, its first element apart
-pub drop-next : (l : List Float) (k : ℕ) → k < length l → drop k l ≡ getD l k nan ∷ drop (k + 1) l
-drop-next l k h = drop-cons l k nan h ∙ ap (λ (n : ℕ). getD l k nan ∷ drop n l) (sym (add-one k))
 
 module _ (p : VbapPanner) (az el : List Float) (w : ℕ) where
   no-elevation : (l b : List Float) → rowsOf p l [] w b ≡ b
@@ -45,7 +41,7 @@ module _ (p : VbapPanner) (az el : List Float) (w : ℕ) where
     unfolding rowsOf
     rows-full k =
         let short : length (drop from out) < w = simp length-drop (omega arith) in
-        rw (drop-next az i h, drop-next el i g, lt-leb w (length (drop from out)) short) (take-append-drop from out)
+        rw (drop-next az i nan h, drop-next el i nan g, lt-leb w (length (drop from out)) short) (take-append-drop from out)
 
     module _ (row : List Float) (fits : from + w ≤ length out)
         (e : row ≡ gainsBuffer p (getD az i nan) (getD el i nan) (midOf from (from + w - from) out))
@@ -61,7 +57,7 @@ module _ (p : VbapPanner) (az el : List Float) (w : ℕ) where
         unfolding rowsOf rest
         one-row =
             let room : w ≤ length (drop from out) = simp length-drop (omega arith) in
-            rw (drop-next az i h, drop-next el i g, le-leb w (length (drop from out)) room, e, width)
+            rw (drop-next az i nan h, drop-next el i nan g, le-leb w (length (drop from out)) room, e, width)
 
         row-long : length row ≡ w
         row-long =

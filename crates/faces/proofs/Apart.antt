@@ -69,7 +69,7 @@ margin-val : Val binary64 margin false (2 ^ 1058)
 unfolding ofBits
 margin-val = record { has = (refl, refl) }
 
-tiny-val : Val binary64 tiny false (unitsOf binary64 tiny)
+pub tiny-val : Val binary64 tiny false (unitsOf binary64 tiny)
 unfolding ofBits
 tiny-val = record { has = (refl, refl) }
 

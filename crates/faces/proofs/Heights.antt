@@ -8,16 +8,12 @@ use lib.Ieee.{Float, lt, neg}
 use Rattle.lists.specs.Lists.{range, between, filter, every}
 use Rattle.lists.proofs.Ranges.{between-none, between-cons, between-append, range-between}
 use Rattle.lists.proofs.Collect.{filter-append}
-use Rattle.lists.proofs.Tests.{every-append}
+use Rattle.lists.proofs.Tests.{and-false, every-append}
 use Rattle.vector.specs.Vector.{Vector, pointsIn}
 use Rattle.faces.specs.Faces.{eps, others, height, allBelow, allAbove}
 use Rattle.faces.specs.Steps.{isOther, heightIn, besideOf, planeOf, sidesOf}
 use Rattle.faces.specs.declared.Sides.{Sides}
 use Rattle.faces.proofs.Reading.{height-in}
-
-and-false : (a b : Bool) → b ≡ false → a && b ≡ false
-and-false true b e = e
-and-false false b e = refl
 
 -- an element of the last ones that fails is one of them all
 pub every-last : (f g : ℕ → Bool) (p n : ℕ) → p ≤ n → every f (filter g (between p n)) ≡ false → every f (filter g (range n)) ≡ false

@@ -1,7 +1,7 @@
 -- The meaning of the choice of a triplet, by that of the greatest number. Assumes nothing.
 use Prim.Native.Nat.{ℕ, zero, suc, _<_}
 use mathlib.Core.Path.{_≡_, refl, sym, ap, _∙_, subst}
-use mathlib.Core.Bool.{Bool, true, _||_, _&&_, not}
+use mathlib.Core.Bool.{true, _||_, not}
 use mathlib.Core.List.{List, [], _∷_, _++_, map}
 use mathlib.Core.Logic.{⊎-elim}
 use mathlib.Core.Option.{none, some}
@@ -10,6 +10,7 @@ use native.Mathlib.Omega.{arith}
 use lib.ListN.{length, getD, take, length-map, List·getD-eq-default}
 use lib.Ieee.{Float, nan, inf, isNan, lt}
 use Rattle.lists.specs.Lists.{every}
+use Rattle.lists.proofs.Tests.{every-map}
 use Rattle.vector.specs.Vector.{Vector}
 use Rattle.hull.specs.Triplets.{Triplet}
 use Rattle.greatest.specs.Greatest.{firstGreatest}
@@ -17,13 +18,6 @@ use Rattle.greatest.specs.Meaning as greatest
 use Rattle.greatest.proofs.Meaning.{first-greatest-chosen}
 use Rattle.hull_row.specs.HullRow.{Aimed, aimed, leastGain, bestOf}
 use Rattle.hull_row.specs.Meaning.{Chosen, BestChosen, NoneChosen, GainsAreProducts}
-
--- ---- lists
-
-every-map : {A B : Type 0} (f : B → Bool) (g : A → B) (l : List A) → every f (map g l) ≡ every (λ a. f (g a)) l
-unfolding every
-every-map f g [] = refl
-every-map f g (a ∷ l) = ap (λ (b : Bool). f (g a) && b) (every-map f g l)
 
 -- ---- the chosen triplet
 

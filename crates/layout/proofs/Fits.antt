@@ -9,7 +9,7 @@ use lib.Dec.{eqb, ltb}
 use lib.ListN.{length, length-map}
 use Rattle.lists.specs.Lists.{every, between}
 use Rattle.lists.proofs.Ranges.{length-between}
-use Rattle.lists.proofs.Tests.{every-append, every-more}
+use Rattle.lists.proofs.Tests.{every-append, every-more, every-map}
 use Rattle.widths.specs.Narrow.{narrowOf}
 use Rattle.vector.specs.Vector.{Points}
 use Rattle.vector.specs.Speakers.{Speaker, slotsOf, dirsOf}
@@ -24,7 +24,7 @@ use Rattle.panner.specs.Meaning.{HullFits, LayoutFits, pointCount}
 use Rattle.layout.specs.Layout.{buildHullOf, level, shapeOf, tooManyTriplets}
 use Rattle.layout.proofs.Hulls.{numbers-low, inverses-nine, final-count, final-fits, neighbours-fit, neighbours-all-low}
 use Rattle.layout.proofs.Slots.{slots-of, pairs-low}
-use Rattle.layout.proofs.Speakers.{three, slots-count, dirs-three, every-map, pairs-few}
+use Rattle.layout.proofs.Speakers.{three, slots-count, dirs-three, pairs-few}
 
 -- ---- a hull
 

@@ -15,7 +15,7 @@ use lib.Seq.{getD-append-seam}
 use Rattle.lists.specs.Lists.{range, collect, joined, every}
 use Rattle.lists.proofs.Collect.{length-collect, map-snoc}
 use Rattle.lists.proofs.Ranges.{range-none, length-range}
-use Rattle.lists.proofs.Tests.{every-append, every-at, every-getD}
+use Rattle.lists.proofs.Tests.{every-append, every-at, every-getD, every-map}
 use Rattle.vector.specs.Speakers.{Speaker, slotsOf}
 use Rattle.order.specs.declared.Spot.{Spot}
 use Rattle.order.proofs.Insertion.{every-sorted}
@@ -24,7 +24,7 @@ use Rattle.planar.specs.Planar.{coincident, spotOf, ring, spotAt, pairOf, pairA
 use Rattle.layout.specs.Layout.{outputsOf, speakerAt, active}
 use Rattle.layout.specs.Meaning.{Ascending}
 use Rattle.layout.proofs.Hulls.{every-flatMap}
-use Rattle.layout.proofs.Speakers.{every-map, collect-range, picked, active-slot, active-three, three, every-collect, slots-count}
+use Rattle.layout.proofs.Speakers.{collect-range, picked, active-slot, active-three, three, every-collect, slots-count}
 
 -- ---- a collection over places
 

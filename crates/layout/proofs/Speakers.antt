@@ -1,7 +1,7 @@
 -- Active speakers: each has a slot below the outputs and a direction of three numbers, and the flat arrays hold them, one more at a time. Assumes nothing.
 use Prim.Native.Nat.{ℕ, _+_, _-_, _*_, _≤_, _<_}
 use mathlib.Core.Path.{_≡_, refl, sym, ap, ap₂, _∙_}
-use mathlib.Core.Bool.{Bool, true, false, _&&_, _||_, not, cond}
+use mathlib.Core.Bool.{Bool, true, false, _||_, not, cond}
 use mathlib.Core.List.{List, [], _∷_, _++_, append-nil, append-assoc, map, flatMap}
 use mathlib.Core.Option.{Option, none, some}
 use native.Mathlib.Nat.{zero-mul, suc-mul, add-comm}
@@ -16,7 +16,7 @@ use Rattle.lists.proofs.Collect.{collect-append, flatMap-snoc, map-snoc, length
 use Rattle.lists.proofs.Filled.{set-filled-at, getD-filled, length-filled}
 use Rattle.lists.proofs.Parts.{three-places, part-row}
 use Rattle.lists.proofs.Ranges.{range-snoc, length-range, by-places, getD-map}
-use Rattle.lists.proofs.Tests.{and-left, and-right}
+use Rattle.lists.proofs.Tests.{and-left, and-right, every-map}
 use Rattle.ieee.specs.Values.{+0, isFinite}
 use Rattle.vector.specs.Vector.{Vector, x, y, z, unitOf, overOf, lengthOf, shortest, pointsIn}
 use Rattle.vector.specs.Speakers.{Speaker, slotsOf, dirsOf, speakersIn}
@@ -117,11 +117,6 @@ length-flat w (l ∷ ls) e =
     length-append l (flatMap (λ l. l) ls)
     ∙ ap₂ _+_ p (length-flat w ls (and-right (eqb (length l) w) (every (λ l. eqb (length l) w) ls) e))
     ∙ add-comm w (length ls * w) ∙ sym (suc-mul (length ls) w)
-
-pub every-map : {A B : Type 0} (f : B → Bool) (g : A → B) (l : List A) → every f (map g l) ≡ every (λ a. f (g a)) l
-unfolding every
-every-map f g [] = refl
-every-map f g (a ∷ l) = ap (λ (b : Bool). f (g a) && b) (every-map f g l)
 
 pub dirs-three : (act : List Speaker) → every three act ≡ true → every (λ d. eqb (length d) 3) (dirsOf act) ≡ true
 unfolding dirsOf

@@ -1,7 +1,7 @@
 -- Document 01, "Layout", first paragraph, and refusals 1, 2 and 4 of "Returned numbers"; source lines 189 to 212 and 364 to 439: VbapPanner::new, build_hull.
 -- Assumes nothing.
 use Prim.Native.Nat.{ℕ, _/_, _%_}
-use mathlib.Core.Bool.{Bool, true, false, not, cond}
+use mathlib.Core.Bool.{Bool, false, not, cond}
 use mathlib.Core.List.{List, [], _∷_, map}
 use mathlib.Core.Option.{Option, none, some}
 use lib.Dec.{eqb, ltb}

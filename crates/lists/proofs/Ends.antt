@@ -1,13 +1,19 @@
--- Laws of `last`, `butLast` and `change`, each by the list. Assumes nothing.
-use Prim.Native.Nat.{ℕ, zero, suc, _-_, _<_}
-use mathlib.Core.Path.{_≡_, refl, ap}
+-- Laws of `last`, `butLast`, `change` and of what is left of a list, each by the list. Assumes nothing.
+use Prim.Native.Nat.{ℕ, zero, suc, _+_, _-_, _<_}
+use mathlib.Core.Path.{_≡_, refl, sym, ap, _∙_}
 use mathlib.Core.List.{List, [], _∷_, _++_}
 use native.Mathlib.Nat.{not-suc-le-zero}
+use native.Mathlib.Numerals.{add-one}
 use native.Mathlib.Omega.{arith}
-use lib.ListN.{length, getD, set}
+use lib.ListN.{length, getD, set, drop}
+use lib.Seq.{drop-cons}
 use Rattle.lists.specs.Lists.{last, butLast, change}
 
 module _ {A : Type 0} where
+  -- what is left of a list, its first element apart
+  pub drop-next : (l : List A) (k : ℕ) (d : A) → k < length l → drop k l ≡ getD l k d ∷ drop (k + 1) l
+  drop-next l k d h = drop-cons l k d h ∙ ap (λ (n : ℕ). getD l k d ∷ drop n l) (sym (add-one k))
+
   pub butLast-snoc : (l : List A) (a : A) → butLast (l ++ a ∷ []) ≡ l
   unfolding butLast
   butLast-snoc [] a = refl

@@ -3,7 +3,7 @@ use Prim.Native.Nat.{zero, ℕ, suc, _+_, _*_, _≤_, _<_}
 use mathlib.Core.Path.{_≡_, refl, sym, ap, _∙_}
 use mathlib.Core.Bool.{Bool, true, false, _&&_, _||_, cond}
 use mathlib.Core.Logic.{_⊎_, inl, inr}
-use mathlib.Core.List.{List, [], _∷_, _++_, flatMap}
+use mathlib.Core.List.{List, [], _∷_, _++_, map, flatMap}
 use native.Mathlib.Nat.{not-suc-le-zero}
 use native.Mathlib.Numerals.{add-one}
 use native.Mathlib.Omega.{arith}
@@ -30,6 +30,10 @@ and-true false = refl
 pub or-false : (a : Bool) → a || false ≡ a
 or-false true = refl
 or-false false = refl
+
+pub and-false : (a b : Bool) → b ≡ false → a && b ≡ false
+and-false true b e = e
+and-false false b e = refl
 
 pub and-comm : (a b : Bool) → a && b ≡ b && a
 and-comm true true = refl
@@ -67,6 +71,11 @@ pub cond-no : {A : Type 0} {b : Bool} (x y : A) → b ≡ false → cond b x y �
 cond-no x y h = rw h
 
 -- ---- more elements
+
+pub every-map : {A B : Type 0} (f : B → Bool) (g : A → B) (l : List A) → every f (map g l) ≡ every (λ a. f (g a)) l
+unfolding every
+every-map f g [] = refl
+every-map f g (a ∷ l) = ap (λ (b : Bool). f (g a) && b) (every-map f g l)
 
 module _ {A : Type 0} (f : A → Bool) where
   pub every-append : (l m : List A) → every f (l ++ m) ≡ every f l && every f m

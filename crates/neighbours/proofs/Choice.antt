@@ -1,12 +1,6 @@
 -- Laws of tests, by the cases of a Bool. Assumes nothing.
 use mathlib.Core.Path.{_≡_, refl, sym, _∙_}
-use mathlib.Core.Bool.{Bool, true, false, _&&_, _||_, true≢false}
-
--- ---- and
-
-pub and-no : (a b : Bool) → b ≡ false → a && b ≡ false
-and-no true b e = e
-and-no false b e = refl
+use mathlib.Core.Bool.{Bool, true, false, _||_, true≢false}
 
 -- ---- or
 

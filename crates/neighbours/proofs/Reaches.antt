@@ -8,7 +8,7 @@ use lib.ListN.{length, getD}
 use Rattle.lists.specs.Lists.{member, isEmpty}
 use Rattle.lists.proofs.Tests.{cond-yes, cond-no}
 use Rattle.neighbours.specs.Neighbours.{Reach, reach}
-use Rattle.neighbours.proofs.Choice.{and-no}
+use Rattle.lists.proofs.Tests.{and-false}
 
 -- the state with a slot more, and with a point more
 abbrev pub withSlot : Reach → ℕ → Reach
@@ -32,7 +32,7 @@ module _ (l : List ℕ) (r : Reach) (p : ℕ) where
 
   pub reach-late : length l ≤ p → isEmpty (r .nbrs) ≡ false → reach l r p ≡ r
   unfolding reach
-  reach-late h e = cond-no _ _ (le-ltb _ _ h) ∙ cond-no (withPoint r p) r (and-no (not (member p (r .visited))) (isEmpty (r .nbrs)) e)
+  reach-late h e = cond-no _ _ (le-ltb _ _ h) ∙ cond-no (withPoint r p) r (and-false (not (member p (r .visited))) (isEmpty (r .nbrs)) e)
 
   pub reach-visits : length l ≤ p → member p (r .visited) ≡ false → isEmpty (r .nbrs) ≡ true → reach l r p ≡ withPoint r p
   unfolding reach

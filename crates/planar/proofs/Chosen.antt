@@ -1,7 +1,7 @@
 -- The branches of the planar definitions. Assumes nothing.
 use Prim.Native.Nat.{ℕ, _<_}
 use mathlib.Core.Path.{_≡_, sym}
-use mathlib.Core.Bool.{Bool, true, false, _&&_, cond}
+use mathlib.Core.Bool.{true, false, _&&_}
 use lib.Dec.{eqb}
 use lib.Ieee.{Float, binary64, sub, neg, div, lt}
 use borrow.Author.Tests.{ltb-true}

@@ -1,7 +1,7 @@
 -- Document 01, "Layout", the paragraph "Planar"; source lines 219 to 256: build_planar. Assumes nothing.
 use Prim.Native.Nat.{ℕ, _+_, _%_}
 use mathlib.Core.Bool.{_&&_, cond}
-use mathlib.Core.List.{List, [], _∷_, map}
+use mathlib.Core.List.{List, [], map}
 use mathlib.Core.Option.{Option, none, some}
 use lib.Dec.{eqb}
 use lib.ListN.{length, getD}

@@ -1,9 +1,8 @@
 // The ramp: document 01, "The ramp and the mixed gain follow S"; source lines 585 to 602.
 ghost use mathlib.Core.Path.{_≡_};
-ghost use mathlib.Core.List.{map, foldl};
+ghost use mathlib.Core.List.{foldl};
 ghost use Prim.Native.Nat.{_+_, _≤_, min, max};
-ghost use lib.ListN.{length, getD, set};
-ghost use lib.Ieee.{nan, binary32, add};
+ghost use lib.ListN.{length};
 ghost use Rattle.lists.specs.Lists.{range, between};
 ghost use Rattle.ramp.specs.Ramp.{rampAddOf};
 ghost use Rattle.ramp.specs.Turns.{steadyTurn, rampTurn};

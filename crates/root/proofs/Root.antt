@@ -18,10 +18,6 @@ use Rattle.root_digits.proofs.Squares.{sq-lt, sq-suc, sq-twice}
 abbrev pub IsRoot : ℕ → ℕ → Type 0
 IsRoot n r = (r * r ≤ n) × (n < suc r * suc r)
 
-pub root-unique : (n r t : ℕ) → IsRoot n r → IsRoot n t → r ≡ t
-root-unique n r t a b =
-    le-antisymm (le-of-suc-le-suc (sq-lt r (suc t) (lt-of-le-of-lt (a .0) (b .1)))) (le-of-suc-le-suc (sq-lt t (suc r) (lt-of-le-of-lt (b .0) (a .1))))
-
 grown : (n r : ℕ) → IsRoot (n / 4) r → IsRoot n (grow n (2 * r))
 unfolding grow
 grown n r h = go (leb (suc (2 * r) * suc (2 * r)) n) (leb→le (suc (2 * r) * suc (2 * r)) n) (nleb→lt (suc (2 * r) * suc (2 * r)) n)

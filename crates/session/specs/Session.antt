@@ -8,7 +8,6 @@ use lib.Seq.{sets}
 use lib.Ieee.{Float, nan}
 use Rattle.lists.specs.Lists.{range, any, part}
 use Rattle.ieee.specs.Values.{+0}
-use Rattle.panner.specs.declared.VbapPanner.{VbapPanner}
 use Rattle.panner.specs.Panner.{layoutIn}
 use Rattle.panner.specs.Malformed.{malformedOf}
 use Rattle.gains.specs.Gains.{finiteOr0, rowOf}

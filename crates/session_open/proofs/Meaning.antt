@@ -14,11 +14,11 @@ use Rattle.panner.specs.Malformed.{malformedOf}
 use Rattle.panner.proofs.WellFormed.{well-formed}
 use Rattle.layout.specs.Layout.{outputsOf, active, layoutOf, tooManyTriplets, newRefusal, pannerOf}
 use Rattle.layout.proofs.Answers.{accepted-fits}
-use Rattle.history.specs.Calls.{Call, place, takeBack, settle, render}
+use Rattle.history.specs.Calls.{place, takeBack, settle, render}
 use Rattle.history.specs.History.{depth}
 use Rattle.session.specs.Session.{malformedSession, numberOf}
 use Rattle.session.proofs.Refusals.{formed-is}
-use Rattle.session_open.specs.Open.{fresh, openRefusal, noSession, refusedBy, openOf}
+use Rattle.session_open.specs.Open.{fresh, openRefusal, noSession, openOf}
 use Rattle.session_open.specs.Meaning.{NoSessionRefused, OpenedFormed}
 use Rattle.session_open.specs.declared.Opened.{Opened}
 use Rattle.session_open.proofs.Opening.{newNumber, openNumber, few-sources, new-number}

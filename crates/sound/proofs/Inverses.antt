@@ -9,6 +9,7 @@ use Rattle.ieee.specs.Values.{abs}
 use Rattle.widths.specs.Narrow.{narrowOf}
 use Rattle.vector.specs.Vector.{minor}
 use Rattle.faces.specs.Faces.{tiny}
+use Rattle.faces.proofs.Apart.{tiny-val}
 use Rattle.bounds.proofs.Units.{Val, unitsOf, narrow-fits}
 use Rattle.bounds.proofs.Held.{held, fits-held}
 use Rattle.bounds.proofs.Size.{Mag, mag-mul, mag-sub, mag-div, mag-narrow}
@@ -26,10 +27,6 @@ minor-mag a b c d = mag-sub (2 * L) (product a b) (product c d) (held binary64 2
   where
     product : {u v : Float} → Mag binary64 u L → Mag binary64 v L → Mag binary64 (mul binary64 u v) L
     product u v = mag-mul L u v (held binary64 1 1074 (lit≤ tt)) (lit< tt) (lit≤ tt)
-
-tiny-val : Val binary64 tiny false (unitsOf binary64 tiny)
-unfolding ofBits
-tiny-val = record { has = (refl, refl) }
 
 pub entry-within : {c d : Float} {t : Bool} {D : ℕ} → Mag binary64 c (2 * L) → Val binary64 d t D → T (not (lt (abs d) tiny)) → Within largestInverse (narrowOf (div binary64 c d))
 unfolding ofBits fits

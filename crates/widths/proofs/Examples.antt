@@ -1,6 +1,6 @@
 -- Values that document 01 gives, "Cases" and "Number work", and a few at the formats' ends: the definition gives each by computation. Assumes nothing.
 use mathlib.Core.Path.{_≡_, refl}
-use mathlib.Core.Bool.{true, false}
+use mathlib.Core.Bool.{false}
 use lib.IntN.{pos}
 use lib.Ieee.{inf, fin, binary32, binary64, ofBits}
 use Rattle.widths.specs.Narrow.{narrowOf}

@@ -8,6 +8,7 @@ use borrow.Author.Needs.{needs}
 use denote.Ref.{now}
 use lib.Ieee.{Float, nan, le, binary64, round, add, sub, neg, mul, div, rem, ofInt, ofBits}
 use lib.ListN.{getD}
+use Rattle.lists.proofs.Tests.{every-map}
 use Rattle.lists.specs.Lists.{every, part, range, between}
 use Rattle.lists.proofs.Parts.{getD-part}
 use Rattle.lists.proofs.Ranges.{between-cons, between-none, range-between}
@@ -16,7 +17,6 @@ use Rattle.trig.specs.Series.{coefficients, sumOf, factorial}
 use Rattle.trig.specs.Sine.{S, C, sineCoefficients, cosineCoefficients, remainder, quotient, nearestWhole, quarter, reduced, mod4, sineBy, sinOf}
 use Rattle.vector.specs.Vector.{pointsIn}
 use Rattle.layout.specs.Layout.{levelAt, planarMaxElevation}
-use Rattle.layout.proofs.Speakers.{every-map}
 use Rattle.layout.proofs.all_level.Statement.{statement}
 use Rattle.layout.proofs.all_level.Tie as tie
 

@@ -1,14 +1,13 @@
 -- `layout::is_lfe` meets its contract. The loop's invariant: the slot is listed where it is among those left. Assumes nothing.
-use Prim.Native.Nat.{ℕ, _≤_, _-_}
+use Prim.Native.Nat.{_≤_, _-_}
 use mathlib.Core.Path.{_≡_, refl, sym, ap, _∙_}
 use native.Mathlib.Omega.{arith}
-use borrow.Author.Needs.{needs}
 use borrow.Author.Tests.{eq-eqb, ne-eqb}
 use denote.Ref.{now}
 use lib.Dec.{eqb}
 use lib.ListN.{length, take, drop}
 use lib.Seq.{take-length}
-use Rattle.lists.specs.Lists.{any, member}
+use Rattle.lists.specs.Lists.{member}
 use Rattle.lists.proofs.Tests.{any-yes, any-no, any-end}
 use Rattle.layout.proofs.is_lfe.Statement.{statement}
 use Rattle.layout.proofs.is_lfe.Tie as tie

@@ -1,15 +1,12 @@
 -- `layout::next` meets its contract: an LFE slot and a position that `unit` does not accept add none, any other adds its speaker. Assumes nothing.
-use Prim.Native.Nat.{_≤_, _+_, _*_}
 use mathlib.Core.Path.{_≡_, refl, sym, ap, _∙_}
-use mathlib.Core.Bool.{true, false}
-use mathlib.Core.Option.{Option, none, some}
 use native.Mathlib.Omega.{arith}
 use borrow.Author.Needs.{needs}
 use denote.Ref.{now}
 use lib.Ieee.{nan}
 use Rattle.lists.specs.Lists.{part}
 use Rattle.lists.proofs.Parts.{part-three}
-use Rattle.vector.specs.Vector.{Vector, unitOf}
+use Rattle.vector.specs.Vector.{unitOf}
 use Rattle.vector.specs.Unit.{unitIn}
 use Rattle.layout.specs.Layout.{inSlot, speakerAt}
 use Rattle.layout.specs.Arrays.{heldIn, nextOf}

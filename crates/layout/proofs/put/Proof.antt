@@ -1,8 +1,7 @@
 -- `layout::put` meets its contract: four stores. Assumes nothing.
 use Prim.Native.Nat.{_*_}
-use mathlib.Core.Path.{_≡_, refl}
+use mathlib.Core.Path.{refl}
 use native.Mathlib.Numerals.{add-one, add-two}
-use native.Mathlib.Omega.{arith}
 use borrow.Author.Needs.{needs}
 use Rattle.layout.specs.Arrays.{putOf}
 use Rattle.layout.proofs.put.Statement.{statement}

@@ -1,5 +1,5 @@
 -- `planar::build_planar` meets its contract: the front of the sorted array is the ring, and the invariant has the pairs from its first i spots in the array. Assumes nothing.
-use Prim.Native.Nat.{ℕ, _+_, _-_, _%_, _≤_, _<_, zero-le}
+use Prim.Native.Nat.{_+_, _-_, _%_, _≤_, _<_, zero-le}
 use mathlib.Core.Path.{_≡_, refl, sym, ap, _∙_}
 use native.Mathlib.Nat.{mod-eq-of-lt}
 use lib.Ieee.{ofBits}

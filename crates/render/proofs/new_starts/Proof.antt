@@ -1,7 +1,6 @@
 -- `render::new_starts` meets its contract: each turn renews one row in place, and the rows of no source stay. Assumes nothing.
 use Prim.Native.Nat.{ℕ, _+_, _-_, _*_, _≤_, _<_}
 use mathlib.Core.Path.{_≡_, sym, ap, _∙_}
-use mathlib.Core.Bool.{false}
 use mathlib.Core.List.{List, flatMap}
 use borrow.Author.Needs.{needs}
 use borrow.Rule.Slice.PartMut.{same-len-mid}
@@ -10,7 +9,7 @@ use lib.Ieee.{Float, nan}
 use Rattle.lists.specs.Lists.{range}
 use Rattle.panner.specs.declared.VbapPanner.{VbapPanner}
 use Rattle.history.specs.History.{depth}
-use Rattle.session.specs.Session.{malformedSession, target, newStart}
+use Rattle.session.specs.Session.{target, newStart}
 use Rattle.session.specs.declared.Session.{Session}
 use Rattle.session.proofs.Refusals.{formed, none-at}
 use Rattle.render.proofs.Numbers.{outputs-low}
