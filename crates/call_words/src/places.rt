@@ -6,9 +6,9 @@ use cases::values::Form;
 use cases::values::pattern32;
 use cases::values::single;
 use cases::values::take;
-use replay_row::words::Walk;
-use replay_row::words::holds;
-use replay_row::words::read_whole;
+use record_words::words::Walk;
+use record_words::words::holds;
+use record_words::words::read_whole;
 
 // A count that is at most a length; 0 where it is more.
 fn bounded(n: u64, most: usize) -> usize
