@@ -1,4 +1,3 @@
-pub mod Branches
 pub mod Coefficients
 pub mod NotNumbers
 pub mod Trials

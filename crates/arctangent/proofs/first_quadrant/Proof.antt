@@ -1,10 +1,10 @@
 -- `arctangent::first_quadrant` meets its contract: the branch is the definition's test. Assumes nothing.
 use borrow.Author.Needs.{needs}
-use mathlib.Core.Path.{ap, _∙_}
+use mathlib.Core.Path.{sym, ap, _∙_}
 use lib.Ieee.{binary64, sub, le}
+use Rattle.lists.proofs.Tests.{cond-yes, cond-no}
 use Rattle.trig.specs.Pi.{halfPi}
 use Rattle.arctangent.specs.Arctangent.{atanOf, ratioOf, firstQuadrantOf}
-use Rattle.arctangent.proofs.Branches.{cond-yes, cond-no}
 use Rattle.arctangent.proofs.first_quadrant.Statement.{statement}
 use Rattle.arctangent.proofs.first_quadrant.Tie as tie
 
@@ -21,7 +21,7 @@ returns c =
     let x = c .before .before .before .args .x in
     c .atan .ensures
     ∙ ap atanOf (c .before .ratio .ensures)
-    ∙ cond-yes (le y x) (atanOf (ratioOf y x)) (sub binary64 halfPi (atanOf (ratioOf x y))) (c .before .before .if1 .taken)
+    ∙ sym (cond-yes (atanOf (ratioOf y x)) (sub binary64 halfPi (atanOf (ratioOf x y))) (c .before .before .if1 .taken))
 
 ratio-requires-2 : tie.Need-ratio-requires-2
 ratio-requires-2 c κs = search needs
@@ -35,7 +35,7 @@ returns-2 c =
     let y = c .before .before .before .args .y in
     let x = c .before .before .before .args .x in
     ap (sub binary64 halfPi) (c .atan2 .ensures ∙ ap atanOf (c .before .ratio2 .ensures))
-    ∙ cond-no (le y x) (atanOf (ratioOf y x)) (sub binary64 halfPi (atanOf (ratioOf x y))) (c .before .before .if1 .left)
+    ∙ sym (cond-no (atanOf (ratioOf y x)) (sub binary64 halfPi (atanOf (ratioOf x y))) (c .before .before .if1 .left))
 
 pub first-quadrant-spec : {M : Type 1} → statement M
 first-quadrant-spec =

@@ -1,19 +1,20 @@
 -- `arctangent::ratio` meets its contract: the branch is the definition's test. Assumes nothing.
+use mathlib.Core.Path.{sym}
 use mathlib.Core.Bool.{_&&_}
 use lib.Ieee.{binary64, div, eq, ofBits}
+use Rattle.lists.proofs.Tests.{cond-yes, cond-no}
 use Rattle.ieee.specs.Values.{+0}
 use Rattle.arctangent.specs.Arctangent.{ratioOf}
-use Rattle.arctangent.proofs.Branches.{cond-yes, cond-no}
 use Rattle.arctangent.proofs.ratio.Statement.{statement}
 use Rattle.arctangent.proofs.ratio.Tie as tie
 
 returns : tie.Need-returns
 unfolding ratioOf ofBits
-returns c = let y = c .before .args .y in let x = c .before .args .x in cond-yes (eq y +0 && eq x +0) +0 (div binary64 y x) (c .if1 .taken)
+returns c = let y = c .before .args .y in let x = c .before .args .x in sym (cond-yes +0 (div binary64 y x) (c .if1 .taken))
 
 returns-2 : tie.Need-returns-2
 unfolding ratioOf ofBits
-returns-2 c = let y = c .before .args .y in let x = c .before .args .x in cond-no (eq y +0 && eq x +0) +0 (div binary64 y x) (c .if1 .left)
+returns-2 c = let y = c .before .args .y in let x = c .before .args .x in sym (cond-no +0 (div binary64 y x) (c .if1 .left))
 
 pub ratio-spec : {M : Type 1} → statement M
 ratio-spec = tie.close (tie.spec returns returns-2)

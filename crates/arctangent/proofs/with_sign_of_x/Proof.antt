@@ -2,10 +2,10 @@
 use borrow.Author.Needs.{needs}
 use mathlib.Core.Path.{sym, _∙_}
 use lib.Ieee.{binary64, sub}
+use Rattle.lists.proofs.Tests.{cond-yes, cond-no}
 use Rattle.ieee.specs.Values.{signBit}
 use Rattle.trig.specs.Pi.{PI64}
 use Rattle.arctangent.specs.Arctangent.{withSignOfX}
-use Rattle.arctangent.proofs.Branches.{cond-yes, cond-no}
 use Rattle.arctangent.proofs.with_sign_of_x.Statement.{statement}
 use Rattle.arctangent.proofs.with_sign_of_x.Tie as tie
 
@@ -14,11 +14,11 @@ sign-bit64-requires c κs = search needs
 
 returns : tie.Need-returns
 unfolding withSignOfX
-returns c = let x = c .before .before .args .x in let a = c .before .before .args .a in cond-yes (signBit x) (sub binary64 PI64 a) a (sym (c .before .sign-bit64 .ensures) ∙ c .if1 .taken)
+returns c = let x = c .before .before .args .x in let a = c .before .before .args .a in sym (cond-yes (sub binary64 PI64 a) a (sym (c .before .sign-bit64 .ensures) ∙ c .if1 .taken))
 
 returns-2 : tie.Need-returns-2
 unfolding withSignOfX
-returns-2 c = let x = c .before .before .args .x in let a = c .before .before .args .a in cond-no (signBit x) (sub binary64 PI64 a) a (sym (c .before .sign-bit64 .ensures) ∙ c .if1 .left)
+returns-2 c = let x = c .before .before .args .x in let a = c .before .before .args .a in sym (cond-no (sub binary64 PI64 a) a (sym (c .before .sign-bit64 .ensures) ∙ c .if1 .left))
 
 pub with-sign-of-x-spec : {M : Type 1} → statement M
 with-sign-of-x-spec = tie.close (tie.spec sign-bit64-requires returns returns-2)

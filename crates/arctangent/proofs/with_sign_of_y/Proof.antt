@@ -2,9 +2,9 @@
 use borrow.Author.Needs.{needs}
 use mathlib.Core.Path.{sym, _∙_}
 use lib.Ieee.{neg}
+use Rattle.lists.proofs.Tests.{cond-yes, cond-no}
 use Rattle.ieee.specs.Values.{signBit}
 use Rattle.arctangent.specs.Arctangent.{withSignOfY}
-use Rattle.arctangent.proofs.Branches.{cond-yes, cond-no}
 use Rattle.arctangent.proofs.with_sign_of_y.Statement.{statement}
 use Rattle.arctangent.proofs.with_sign_of_y.Tie as tie
 
@@ -13,11 +13,11 @@ sign-bit64-requires c κs = search needs
 
 returns : tie.Need-returns
 unfolding withSignOfY
-returns c = let y = c .before .before .args .y in let b = c .before .before .args .b in cond-yes (signBit y) (neg b) b (sym (c .before .sign-bit64 .ensures) ∙ c .if1 .taken)
+returns c = let y = c .before .before .args .y in let b = c .before .before .args .b in sym (cond-yes (neg b) b (sym (c .before .sign-bit64 .ensures) ∙ c .if1 .taken))
 
 returns-2 : tie.Need-returns-2
 unfolding withSignOfY
-returns-2 c = let y = c .before .before .args .y in let b = c .before .before .args .b in cond-no (signBit y) (neg b) b (sym (c .before .sign-bit64 .ensures) ∙ c .if1 .left)
+returns-2 c = let y = c .before .before .args .y in let b = c .before .before .args .b in sym (cond-no (neg b) b (sym (c .before .sign-bit64 .ensures) ∙ c .if1 .left))
 
 pub with-sign-of-y-spec : {M : Type 1} → statement M
 with-sign-of-y-spec = tie.close (tie.spec sign-bit64-requires returns returns-2)
