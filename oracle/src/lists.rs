@@ -62,7 +62,7 @@ const fn lines(name: &'static str, seed: u64, make: fn(&mut Random) -> (String, 
 /// Every stored list. The seeds are arbitrary.
 pub static INPUTS: [Input; 6] = [
     Input {
-        program: "replay_numbers",
+        program: "test_numbers",
         lists: &[
             functions(
                 "widths",
@@ -85,7 +85,7 @@ pub static INPUTS: [Input; 6] = [
         ],
     },
     Input {
-        program: "replay_trig",
+        program: "test_sines",
         lists: &[
             functions("sine", 0x107, &["sin64", "cos64", "sin32", "cos32"]),
             functions("sine_pairs", 0x108, &["sin_cos64", "sin_cos32"]),
@@ -93,25 +93,25 @@ pub static INPUTS: [Input; 6] = [
         ],
     },
     Input {
-        program: "replay_layouts",
+        program: "test_layouts",
         lists: &[
             layouts("layouts", 0x10a, chosen_layouts::chosen),
             layouts("layouts_random", 0x10b, random_layouts::drawn),
         ],
     },
     Input {
-        program: "replay_ramps",
+        program: "test_ramps",
         lists: &[lines("ramps", 0x10c, ramps::ramps)],
     },
     Input {
-        program: "replay_rows",
+        program: "test_rows",
         lists: &[
             lines("rows", 0x10d, row_lists::first),
             lines("rows_2", 0x10e, row_lists::second),
         ],
     },
     Input {
-        program: "replay_calls",
+        program: "test_calls",
         lists: &[
             lines("calls", 0x10f, call_lists::opened),
             lines("calls_2", 0x110, call_lists::made),

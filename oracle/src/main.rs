@@ -11,7 +11,7 @@ const USAGE: &str =
     "usage: oracle cases NAME | write ROOT | fresh ROOT | stream COUNT SEED | libm | selftest | rationale | rehearsal";
 
 /// What the rehearsal writes, below the repository's root.
-const REHEARSAL: &str = "crates/rehearsal/stdout";
+const REHEARSAL: &str = "crates/demo_rehearsal/stdout";
 
 fn print(text: &str) {
     // A reader that goes away early is no error.

@@ -1,4 +1,4 @@
-//! What crate `rehearsal` has to write, told by the oracle's own functions and Rust's decimals.
+//! What crate `demo_rehearsal` has to write, told by the oracle's own functions and Rust's decimals.
 
 use crate::layouts::{at, opened, ring};
 use crate::record::{Kind, Panner, MAX_OUTPUTS};

@@ -347,7 +347,7 @@ fn session_cases() -> Result<(), String> {
 fn stored_calls() -> Result<(), String> {
     let input = INPUTS
         .iter()
-        .find(|i| i.program == "replay_calls")
+        .find(|i| i.program == "test_calls")
         .ok_or("no lists of calls")?;
     let text = input.text();
     let (mut lists, mut calls, mut seen) = (0, 0, [0u64; 12]);

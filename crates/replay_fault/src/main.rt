@@ -1,4 +1,0 @@
-// Replays a list with one wrong expectation and one malformed line, which both have to be found.
-fn main() {
-    replay::run();
-}

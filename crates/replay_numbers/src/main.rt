@@ -1,4 +1,0 @@
-// Replays the cases of the number work: widths, roots, order, signs and remainder.
-fn main() {
-    replay::run();
-}

@@ -1,4 +1,0 @@
-// Replays the cases of the stand-ins: sine and cosine, each and together, arctangent and atan2.
-fn main() {
-    replay::run();
-}
