@@ -145,7 +145,7 @@ fn layout() -> String {
         ("imaginary points", made.imaginary),
     ];
     let counts = counts.map(|(name, n)| format!("{name:<18}{n:>2}\n"));
-    let kind = "hull: active speakers above the horizon, panned between triplets";
+    let kind = "hull: active speakers above or below the horizon, panned between triplets";
     let head = format!(
         "{:<18}{}{:<18}{kind}\n",
         "number",
