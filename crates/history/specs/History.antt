@@ -28,11 +28,11 @@ quiet l = replicate (l .outputs) +0
 abbrev pub beginning : Layout → Past
 beginning l = record { standing = []; row = quiet l }
 
--- how many directions may stand. Origin: document 01, refusal 6.
+-- how many directions of a source may stand. Origin: document 01, refusal 6.
 abbrev pub depth : ℕ
 depth = 16
 
--- the longest block. Origin: document 01, refusal 8.
+-- the longest block, in samples. Origin: document 01, refusal 8.
 abbrev pub longestBlock : ℕ
 longestBlock = 1024
 
@@ -41,10 +41,14 @@ longestBlock = 1024
 abbrev pub stand : List Past → ℕ → ℕ
 stand ps i = length (getD (map (λ p. p .standing) ps) i [])
 
+-- a call on source i: 5, then what the call has of its own
+abbrev pub onSource : List Past → ℕ → ℕ → ℕ
+onSource ps i own = cond (leb (length ps) i) 5 own
+
 unfoldable pub refusal : Layout → List Past → Call → ℕ
-refusal l ps (place i az el) = cond (leb (length ps) i) 5 (cond (leb depth (stand ps i)) 6 0)
-refusal l ps (takeBack i) = cond (leb (length ps) i) 5 (cond (eqb (stand ps i) 0) 7 0)
-refusal l ps (settle i) = cond (leb (length ps) i) 5 0
+refusal l ps (place i az el) = onSource ps i (cond (leb depth (stand ps i)) 6 0)
+refusal l ps (takeBack i) = onSource ps i (cond (eqb (stand ps i) 0) 7 0)
+refusal l ps (settle i) = onSource ps i 0
 refusal l ps (render L samples outputs) =
     cond (eqb L 0) 8 (cond (ltb longestBlock L) 8
     (cond (not (eqb (length samples) (length ps * L))) 9

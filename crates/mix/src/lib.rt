@@ -4,10 +4,19 @@ ghost use mathlib.Core.List.{foldl};
 ghost use Prim.Native.Nat.{_+_, _*_, _≤_, _<_};
 ghost use lib.ListN.{length};
 ghost use Rattle.lists.specs.Lists.{range};
-ghost use Rattle.mix.specs.Turns.{rampPart, rampSource};
+ghost use Rattle.mix.specs.Turns.{mostSources, rowPlaces, rampPart, rampSource};
 
-// Gains of the row of a source. Origin: document 01, "Layout", at most 40 outputs.
+// How many sources there may be. Origin: document 01, refusal 3.
+pub const SOURCES: usize = 8;
+
+// Gains of the row of a source. Origin: a place for each output, of which there are at most 40 (document 01, refusal 2).
 pub const ROW: usize = 40;
+
+// Gains of the rows of all sources, 320. Origin: 8 rows of 40.
+pub const GAINS: usize = SOURCES * ROW;
+
+// The row from which each source starts, source after source: gain o of source i at i * ROW + o. Unused places hold +0.
+pub type Starts = [f32; GAINS];
 
 // For each slot ascending, the samples of source i ramped from its gain in `from` to its gain in `to`.
 fn mix_source(
@@ -15,11 +24,11 @@ fn mix_source(
     outputs: usize,
     i: usize,
     samples: &[f32],
-    from: &[f32; 320],
-    to: &[f32; 320],
+    from: &Starts,
+    to: &Starts,
     out: &mut [f32],
 )
-    requires { ⌜ (outputs ≤ 40) × (i < 8) × (i * block + block ≤ length (now samples)) × (length (now out) ≡ outputs * block) ⌝ }
+    requires { ⌜ (outputs ≤ rowPlaces) × (i < mostSources) × (i * block + block ≤ length (now samples)) × (length (now out) ≡ outputs * block) ⌝ }
     ensures { λ _. ⌜ now (out .exit) ≡ foldl (rampPart block (now (samples .entry)) (now (from .entry)) (now (to .entry)) i) (now (out .entry)) (range outputs) ⌝ }
 {
     let mut o: usize = 0;
@@ -40,11 +49,11 @@ pub fn mix(
     outputs: usize,
     sources: usize,
     samples: &[f32],
-    from: &[f32; 320],
-    to: &[f32; 320],
+    from: &Starts,
+    to: &Starts,
     out: &mut [f32],
 )
-    requires { ⌜ (outputs ≤ 40) × (sources ≤ 8) × (length (now samples) ≡ sources * block) × (length (now out) ≡ outputs * block) ⌝ }
+    requires { ⌜ (outputs ≤ rowPlaces) × (sources ≤ mostSources) × (length (now samples) ≡ sources * block) × (length (now out) ≡ outputs * block) ⌝ }
     ensures { λ _. ⌜ now (out .exit) ≡ foldl (rampSource block outputs (now (samples .entry)) (now (from .entry)) (now (to .entry))) (now (out .entry)) (range sources) ⌝ }
 {
     let mut i: usize = 0;

@@ -6,30 +6,24 @@ use mathlib.Core.List.{List, flatMap}
 use borrow.Author.Tests.{eq-eqb, ne-eqb}
 use lib.Ieee.{Float}
 use Rattle.lists.specs.Lists.{range}
+use Rattle.mix.specs.Turns.{mostSources}
 use Rattle.history.specs.Calls.{render}
-use Rattle.session.specs.Session.{newStart, rendered, accepted, numberOf, mixed, renderedBuffer}
+use Rattle.session.specs.Session.{withStarts, newStart, rendered, accepted, numberOf, mixed, renderedBuffer}
 use Rattle.session.specs.Answers.{answerOf}
 use Rattle.session.specs.declared.Session.{Session}
 use Rattle.session.specs.declared.Answer.{Answer}
-use Rattle.session.proofs.Answers.{refused-as, accepted-as}
+use Rattle.session.proofs.Answers.{accepted-as, with-starts-as}
 
 module _ (s : Session) (L : ℕ) (samples outputs : List Float) where
   module _ {why : ℕ} (w : why ≡ numberOf s (render L samples outputs)) where
-    pub render-refused : (why ≡ 0 → ⊥) → _≡_ {A = Answer} (record { number = why; session = s }) (answerOf s (render L samples outputs))
-    render-refused h = refused-as s (render L samples outputs) (sym w) h
-
     pub buffer-refused : (why ≡ 0 → ⊥) → outputs ≡ renderedBuffer s L samples outputs
     unfolding renderedBuffer
     buffer-refused h = sym (ap (λ (b : Bool). cond b (mixed s L samples outputs) outputs) (ne-eqb (numberOf s (render L samples outputs)) 0 (λ e. h (w ∙ e))))
 
-    pub render-done : why ≡ 0 → {to : List Float} → to ≡ flatMap (newStart s) (range 8)
-        → _≡_ {A = Answer} (record { number = 0; session = record { panner = s .panner; sources = s .sources; counts = s .counts; standing = s .standing; starts = to } })
-        (answerOf s (render L samples outputs))
+    pub render-done : why ≡ 0 → {to : List Float} {t : Session} → to ≡ flatMap (newStart s) (range mostSources) → t ≡ withStarts s to
+        → _≡_ {A = Answer} (record { number = 0; session = t }) (answerOf s (render L samples outputs))
     unfolding accepted rendered
-    render-done z {to} e = accepted-as s (render L samples outputs) (sym w ∙ z) (ap made e)
-      where
-        made : List Float → Session
-        made l = record { panner = s .panner; sources = s .sources; counts = s .counts; standing = s .standing; starts = l }
+    render-done z e f = accepted-as s (render L samples outputs) w z (with-starts-as s f e)
 
     pub buffer-done : why ≡ 0 → mixed s L samples outputs ≡ renderedBuffer s L samples outputs
     unfolding renderedBuffer

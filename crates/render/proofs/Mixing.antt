@@ -10,7 +10,7 @@ use Rattle.lists.specs.Lists.{range}
 use Rattle.lists.proofs.Collect.{foldl-snoc}
 use Rattle.lists.proofs.Parts.{getD-part}
 use Rattle.lists.proofs.Ranges.{range-none, range-snoc}
-use Rattle.mix.specs.Turns.{rampPart, rampSource}
+use Rattle.mix.specs.Turns.{rowPlaces, rampPart, rampSource}
 use Rattle.session.specs.Session.{startRow, target, rampSlot, mixed}
 use Rattle.session.specs.declared.Session.{Session}
 
@@ -22,12 +22,12 @@ foldl-same f g a (suc n) h =
     (h (foldl g a (range n)) n (omega arith))
 
 -- where a list of rows holds the targets, mixing from the start rows to it is the definition's
-module _ (s : Session) (L : ℕ) (samples to : List Float) (few : s .panner .«num_outputs» ≤ 40)
-    (e : (i o : ℕ) → i < s .sources → o < s .panner .«num_outputs» → getD to (i * 40 + o) nan ≡ getD (target s i) o nan)
+module _ (s : Session) (L : ℕ) (samples to : List Float) (few : s .panner .«num_outputs» ≤ rowPlaces)
+    (e : (i o : ℕ) → i < s .sources → o < s .panner .«num_outputs» → getD to (i * rowPlaces + o) nan ≡ getD (target s i) o nan)
   where
     slot-same : (x : List Float) (i o : ℕ) → i < s .sources → o < s .panner .«num_outputs» → rampPart L samples (s .starts) to i x o ≡ rampSlot s L samples i x o
     unfolding rampPart rampSlot startRow
-    slot-same x i o h k = rw (e i o h k, getD-part 40 (s .starts) i o nan (omega arith))
+    slot-same x i o h k = rw (e i o h k, getD-part rowPlaces (s .starts) i o nan (omega arith))
 
     pub mix-same : (out : List Float) → foldl (rampSource L (s .panner .«num_outputs») samples (s .starts) to) out (range (s .sources)) ≡ mixed s L samples out
     unfolding mixed rampSource

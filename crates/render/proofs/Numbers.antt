@@ -9,6 +9,7 @@ use borrow.Author.Tests.{ltb-false, eqb-true}
 use lib.Dec.{eqb, ltb}
 use lib.ListN.{length}
 use lib.Ieee.{Float}
+use Rattle.mix.specs.Turns.{rowPlaces}
 use Rattle.history.specs.Calls.{render}
 use Rattle.history.specs.History.{longestBlock}
 use Rattle.panner.proofs.Counts.{within}
@@ -20,10 +21,10 @@ use Rattle.session.proofs.Refusals.{formed}
 
 -- ---- numbers that fit
 
-pub small-product : (a b : ℕ) → a ≤ 40 → b ≤ 1024 → a * b ≤ 40960
-small-product a b h k = le-trans (mul-le-mul-right b h) (mul-le-mul-left 40 k)
+pub small-product : (a b : ℕ) → a ≤ rowPlaces → b ≤ longestBlock → a * b ≤ rowPlaces * longestBlock
+small-product a b h k = le-trans (mul-le-mul-right b h) (mul-le-mul-left rowPlaces k)
 
-pub outputs-low : (s : Session) → malformedSession s ≡ false → s .panner .«num_outputs» ≤ 40
+pub outputs-low : (s : Session) → malformedSession s ≡ false → s .panner .«num_outputs» ≤ rowPlaces
 unfolding malformedOf
 outputs-low s m = within (s .panner) (neither (countsOver (s .panner)) (numbersOut (s .panner)) (formed s m .panner) .0) .outputs
 

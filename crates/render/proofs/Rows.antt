@@ -22,6 +22,7 @@ use Rattle.panner.specs.declared.VbapPanner.{VbapPanner}
 use Rattle.panner.specs.Panner.{layoutIn}
 use Rattle.panner.specs.Malformed.{malformedOf}
 use Rattle.gains.specs.Gains.{rowOf, gainsOf, gainsBuffer}
+use Rattle.mix.specs.Turns.{mostSources, rowPlaces}
 use Rattle.session.specs.Session.{standingCount, at, startRow, target, newStart}
 use Rattle.session.specs.declared.Session.{Session}
 use Rattle.render.specs.Target.{targetRow}
@@ -141,25 +142,25 @@ part-long m a k h =
 
 -- ---- the start rows, renewed
 
-module _ (s : Session) (all : length (s .starts) ≡ 320) where
+module _ (s : Session) (all : length (s .starts) ≡ mostSources * rowPlaces) where
   -- the target of source i, written in front of its row
-  pub row-made : (i : ℕ) (v : List Float) {m : List Float} → s .panner .«num_outputs» ≤ 40 → i < 8 → i < s .sources → v ≡ target s i → length v ≡ s .panner .«num_outputs»
-      → Renewed 40 (s .starts) (newStart s) i m
-      → Renewed 40 (s .starts) (newStart s) (i + 1) (putMid (i * 40) (i * 40 + s .panner .«num_outputs» - i * 40) m v)
+  pub row-made : (i : ℕ) (v : List Float) {m : List Float} → s .panner .«num_outputs» ≤ rowPlaces → i < mostSources → i < s .sources → v ≡ target s i → length v ≡ s .panner .«num_outputs»
+      → Renewed rowPlaces (s .starts) (newStart s) i m
+      → Renewed rowPlaces (s .starts) (newStart s) (i + 1) (putMid (i * rowPlaces) (i * rowPlaces + s .panner .«num_outputs» - i * rowPlaces) m v)
   unfolding startRow
   row-made i v few g h e k r =
-      let size : i * 40 + s .panner .«num_outputs» - i * 40 ≡ s .panner .«num_outputs» = omega arith in
-      let made : newStart s i ≡ v ++ drop (s .panner .«num_outputs») (part 40 (s .starts) i) = rw e (start-new s i h) in
-      rw size (renewed-more 40 (s .starts) (newStart s) i (s .panner .«num_outputs») v made k few (omega arith) r)
+      let size : i * rowPlaces + s .panner .«num_outputs» - i * rowPlaces ≡ s .panner .«num_outputs» = omega arith in
+      let made : newStart s i ≡ v ++ drop (s .panner .«num_outputs») (part rowPlaces (s .starts) i) = rw e (start-new s i h) in
+      rw size (renewed-more rowPlaces (s .starts) (newStart s) i (s .panner .«num_outputs») v made k few (omega arith) r)
 
   -- the rows of no source stay
-  pub rows-made : (i : ℕ) {m : List Float} → s .sources ≤ i → i ≤ 8 → Renewed 40 (s .starts) (newStart s) i m → m ≡ flatMap (newStart s) (range 8)
+  pub rows-made : (i : ℕ) {m : List Float} → s .sources ≤ i → i ≤ mostSources → Renewed rowPlaces (s .starts) (newStart s) i m → m ≡ flatMap (newStart s) (range mostSources)
   unfolding startRow
   rows-made i {m} h g r =
-      let e : i + (8 - i) ≡ 8 = omega arith in
-      let stay : (j : ℕ) → i ≤ j → newStart s j ≡ part 40 (s .starts) j = λ j k. start-old s j (omega arith) in
-      renewed-all 40 (s .starts) (newStart s) 8 all
-      (subst (λ (n : ℕ). Renewed 40 (s .starts) (newStart s) n m) e (renewed-rest 40 (s .starts) (newStart s) (8 - i) i stay (omega arith) r))
+      let e : i + (mostSources - i) ≡ mostSources = omega arith in
+      let stay : (j : ℕ) → i ≤ j → newStart s j ≡ part rowPlaces (s .starts) j = λ j k. start-old s j (omega arith) in
+      renewed-all rowPlaces (s .starts) (newStart s) mostSources all
+      (subst (λ (n : ℕ). Renewed rowPlaces (s .starts) (newStart s) n m) e (renewed-rest rowPlaces (s .starts) (newStart s) (mostSources - i) i stay (omega arith) r))
 
 -- ---- a gain of a new start row
 
@@ -190,23 +191,23 @@ below-more {P} i h p j g = by (ltb j i) refl
         let same : i ≡ j = omega arith in
         subst P same p
 
-module _ (s : Session) (few : s .panner .«num_outputs» ≤ 40) (all : length (s .starts) ≡ 320) where
-  new-start-long : ((j : ℕ) → j < s .sources → length (target s j) ≡ s .panner .«num_outputs») → (j : ℕ) → j < 8 → length (newStart s j) ≡ 40
+module _ (s : Session) (few : s .panner .«num_outputs» ≤ rowPlaces) (all : length (s .starts) ≡ mostSources * rowPlaces) where
+  new-start-long : ((j : ℕ) → j < s .sources → length (target s j) ≡ s .panner .«num_outputs») → (j : ℕ) → j < mostSources → length (newStart s j) ≡ rowPlaces
   unfolding startRow
   new-start-long long j h = by (ltb j (s .sources)) refl
     where
-      row : length (startRow s j) ≡ 40
-      row = length-part 40 (s .starts) j (omega arith)
+      row : length (startRow s j) ≡ rowPlaces
+      row = length-part rowPlaces (s .starts) j (omega arith)
 
-      by : (b : Bool) → ltb j (s .sources) ≡ b → length (newStart s j) ≡ 40
+      by : (b : Bool) → ltb j (s .sources) ≡ b → length (newStart s j) ≡ rowPlaces
       by true e =
           ap length (start-new s j (ltb-true _ _ e))
           ∙ omega (arith, length-append (target s j) (drop (s .panner .«num_outputs») (startRow s j)), length-drop (s .panner .«num_outputs») (startRow s j), long j (ltb-true _ _ e), row)
       by false e = ap length (start-old s j (ltb-false _ _ e)) ∙ row
 
-  pub getD-new : ((j : ℕ) → j < s .sources → length (target s j) ≡ s .panner .«num_outputs») → (i o : ℕ) → i < 8 → i < s .sources → o < s .panner .«num_outputs»
-      → getD (flatMap (newStart s) (range 8)) (i * 40 + o) nan ≡ getD (target s i) o nan
+  pub getD-new : ((j : ℕ) → j < s .sources → length (target s j) ≡ s .panner .«num_outputs») → (i o : ℕ) → i < mostSources → i < s .sources → o < s .panner .«num_outputs»
+      → getD (flatMap (newStart s) (range mostSources)) (i * rowPlaces + o) nan ≡ getD (target s i) o nan
   getD-new long i o g h k =
-      getD-rows 40 (newStart s) 8 i o nan (new-start-long long) g (omega arith)
+      getD-rows rowPlaces (newStart s) mostSources i o nan (new-start-long long) g (omega arith)
       ∙ ap (λ (x : List Float). getD x o nan) (start-new s i h)
       ∙ List·getD-append (target s i) _ nan o (omega (arith, long i h))

@@ -7,24 +7,28 @@ ghost use lib.ListN.{length, getD};
 ghost use lib.Ieee.{nan};
 ghost use Rattle.lists.specs.Lists.{range};
 ghost use Rattle.panner.specs.Malformed.{malformedOf};
+ghost use Rattle.mix.specs.Turns.{mostSources, rowPlaces};
 ghost use Rattle.history.specs.Calls.{render};
 ghost use Rattle.session.specs.Session.{malformedSession, numberOf, target, newStart, renderedBuffer};
 ghost use Rattle.session.specs.Answers.{answerOf};
 ghost use Rattle.render.specs.Target.{targetRow};
 use mix::ROW;
+use mix::Starts;
 use panner::VbapPanner;
 use session::Answer;
 use session::Session;
+use standing::Count;
 use standing::WIDTH;
 
-// Origin: document 01, refusal 8.
+// The longest block, in samples. Origin: document 01, refusal 8.
 const LONGEST_BLOCK: usize = 1024;
 
 // The number of a render: 11, 8, 9 or 10, and 0 where none applies.
 fn refusal(s: Session, block: usize, samples: &[f32], outputs: &[f32]) -> u32
     ensures { λ r. ⌜ r ≡ numberOf s (render block (now (samples .entry)) (now (outputs .entry))) ⌝ }
 {
-    if session::malformed_session(s) {
+    let malformed = session::malformed_session(s);
+    if malformed {
         return 11;
     }
     if block == 0 {
@@ -43,7 +47,7 @@ fn refusal(s: Session, block: usize, samples: &[f32], outputs: &[f32]) -> u32
 }
 
 // The number of the last of n directions, 0 where none stands.
-fn last_of(n: u8) -> usize
+fn last_of(n: Count) -> usize
     ensures { λ r. ⌜ r ≡ n - 1 ⌝ }
 {
     if n == 0 {
@@ -53,7 +57,7 @@ fn last_of(n: u8) -> usize
 }
 
 // The row of a source of which n directions stand, by the last of them: +0 throughout where none stands.
-fn target(panner: VbapPanner, n: u8, az: f32, el: f32, row: &mut [f32])
+fn target(panner: VbapPanner, n: Count, az: f32, el: f32, row: &mut [f32])
     requires { ⌜ (malformedOf panner ≡ false) × (length (now row) ≡ panner .«num_outputs») ⌝ }
     ensures { λ _. ⌜ now (row .exit) ≡ targetRow panner n az el ⌝ }
 {
@@ -65,10 +69,10 @@ fn target(panner: VbapPanner, n: u8, az: f32, el: f32, row: &mut [f32])
 }
 
 // The start rows after a render: for each source its target, the places from outputs on unchanged.
-fn new_starts(s: Session, starts: [f32; 320]) -> [f32; 320]
+fn new_starts(s: Session, starts: Starts) -> Starts
     requires { ⌜ (malformedSession s ≡ false) × (starts ≡ s .starts) ⌝ }
-    ensures made { λ r. ⌜ r ≡ flatMap (newStart s) (range 8) ⌝ }
-    ensures gains { λ r. ⌜ ((i o : ℕ) → i < s .sources → o < s .panner .«num_outputs» → getD r (i * 40 + o) nan ≡ getD (target s i) o nan) ⌝ }
+    ensures made { λ r. ⌜ r ≡ flatMap (newStart s) (range mostSources) ⌝ }
+    ensures gains { λ r. ⌜ ((i o : ℕ) → i < s .sources → o < s .panner .«num_outputs» → getD r (i * rowPlaces + o) nan ≡ getD (target s i) o nan) ⌝ }
 {
     let panner = s.panner;
     let counts = s.counts;
@@ -101,6 +105,7 @@ pub fn render(s: Session, block: usize, samples: &[f32], outputs: &mut [f32]) ->
 {
     let why = refusal(s, block, samples, &*outputs);
     if why != 0 {
+        // a refused render leaves the session and the buffer as they are
         return Answer {
             session: s,
             number: why,
@@ -117,10 +122,8 @@ pub fn render(s: Session, block: usize, samples: &[f32], outputs: &mut [f32]) ->
         &to,
         outputs,
     );
-    let mut next = s;
-    next.starts = to;
     Answer {
-        session: next,
+        session: session::with_starts(s, to),
         number: 0,
     }
 }

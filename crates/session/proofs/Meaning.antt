@@ -1,11 +1,11 @@
 -- No call makes a session that is refused with 11: each test of `malformedSession` by itself. Assumes nothing.
-use Prim.Native.Nat.{ℕ, zero, suc, _+_, _-_, _≤_}
+use Prim.Native.Nat.{ℕ, zero, suc, _+_, _-_, _≤_, _<_}
 use mathlib.Core.Path.{_≡_, refl}
 use mathlib.Core.Bool.{Bool, true, false, cond}
 use mathlib.Core.List.{List, [], _∷_}
 use native.Mathlib.Omega.{arith}
-use borrow.Author.Tests.{leb-false, eqb-true, le-ltb}
-use lib.Dec.{eqb, ltb, leb}
+use borrow.Author.Tests.{eqb-true, le-ltb}
+use lib.Dec.{eqb, ltb}
 use lib.Ieee.{Float}
 use lib.ListN.{set}
 use Rattle.lists.specs.Lists.{any}
@@ -15,7 +15,7 @@ use Rattle.history.specs.History.{depth}
 use Rattle.session.specs.Session.{malformedSession, standingCount, numberOf, restood, placed, takenBack, settled, rendered, accepted, after}
 use Rattle.session.specs.Meaning.{CallsKeepFormed}
 use Rattle.session.specs.declared.Session.{Session}
-use Rattle.session.proofs.Refusals.{Formed, formed, formed-is, none-at}
+use Rattle.session.proofs.Refusals.{Formed, formed, formed-is, none-at, place-passed}
 
 none-set : (b : ℕ) (l : List ℕ) (i n : ℕ) → n ≤ b → any (λ k. ltb b k) l ≡ false → any (λ k. ltb b k) (set l i n) ≡ false
 unfolding any
@@ -34,16 +34,10 @@ module _ (s : Session) (f : Formed s) where
   settled-formed true i numbers = f
   settled-formed false i numbers = restood-formed i 1 0 numbers (omega arith)
 
-  place-room : (m a b : Bool) → _≡_ {A = ℕ} (cond m 11 (cond a 5 (cond b 6 0))) 0 → b ≡ false
-  place-room true a b e = absurd (omega arith)
-  place-room false true b e = absurd (omega arith)
-  place-room false false true e = absurd (omega arith)
-  place-room false false false e = refl
-
   accepted-formed : (c : Call) → numberOf s c ≡ 0 → Formed (accepted s c)
-  unfolding accepted numberOf placed takenBack settled rendered
+  unfolding accepted placed takenBack settled rendered
   accepted-formed (place i az el) z =
-      let h = leb-false depth (standingCount s i) (place-room (malformedSession s) (leb (s .sources) i) _ z) in
+      let h : standingCount s i < depth = place-passed s i az el z .1 in
       restood-formed i (standingCount s i + 1) _ _ (omega arith)
   accepted-formed (takeBack i) z = restood-formed i (standingCount s i - 1) _ _ (omega (arith, none-at depth (s .counts) i (f .counts)))
   accepted-formed (settle i) z = settled-formed (eqb (standingCount s i) 0) i _

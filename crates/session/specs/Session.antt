@@ -12,27 +12,34 @@ use Rattle.panner.specs.Panner.{layoutIn}
 use Rattle.panner.specs.Malformed.{malformedOf}
 use Rattle.gains.specs.Gains.{finiteOr0, rowOf}
 use Rattle.ramp.specs.Ramp.{rampAddOf}
+use Rattle.mix.specs.Turns.{mostSources, rowPlaces}
 use Rattle.history.specs.Calls.{Call, place, takeBack, settle, render}
 use Rattle.history.specs.History.{depth, longestBlock}
 use Rattle.session.specs.declared.Session.{Session}
 
--- ---- malformed: its layout, sources not 1 to 8, or a standing count over 16 in any of its eight places
+-- ---- malformed: its layout, sources not 1 to 8, or a standing count over the depth in any of its eight places
 
-unfoldable pub malformedSession : Session → Bool
-malformedSession s =
-    malformedOf (s .panner) || ltb (s .sources) 1 || ltb 8 (s .sources) || any (λ n. ltb depth n) (s .counts)
+-- by the depth, so that records of another depth can be judged by the same words
+unfoldable pub malformedBy : ℕ → Session → Bool
+malformedBy deep s =
+    malformedOf (s .panner) || ltb (s .sources) 1 || ltb mostSources (s .sources) || any (λ n. ltb deep n) (s .counts)
+
+abbrev pub malformedSession : Session → Bool
+malformedSession s = malformedBy depth s
 
 -- ---- the number of each call: 11 first, the others in rising order
 
 abbrev pub standingCount : Session → ℕ → ℕ
 standingCount s i = getD (s .counts) i 0
 
+-- a call on source i: 11 and 5, then what the call has of its own
+unfoldable pub onSource : Session → ℕ → ℕ → ℕ
+onSource s i own = cond (malformedSession s) 11 (cond (leb (s .sources) i) 5 own)
+
 unfoldable pub numberOf : Session → Call → ℕ
-numberOf s (place i az el) =
-    cond (malformedSession s) 11 (cond (leb (s .sources) i) 5 (cond (leb depth (standingCount s i)) 6 0))
-numberOf s (takeBack i) =
-    cond (malformedSession s) 11 (cond (leb (s .sources) i) 5 (cond (eqb (standingCount s i) 0) 7 0))
-numberOf s (settle i) = cond (malformedSession s) 11 (cond (leb (s .sources) i) 5 0)
+numberOf s (place i az el) = onSource s i (cond (leb depth (standingCount s i)) 6 0)
+numberOf s (takeBack i) = onSource s i (cond (eqb (standingCount s i) 0) 7 0)
+numberOf s (settle i) = onSource s i 0
 numberOf s (render L samples outputs) =
     cond (malformedSession s) 11
     (cond (eqb L 0) 8 (cond (ltb longestBlock L) 8
@@ -49,7 +56,11 @@ at i j = i * (depth * 2) + j * 2
 abbrev pub stood : Session → ℕ → ℕ → List Float → Session
 stood s i n l = record { panner = s .panner; sources = s .sources; counts = set (s .counts) i n; standing = l; starts = s .starts }
 
--- the same, with other numbers from its direction j on
+-- other start rows
+abbrev pub withStarts : Session → List Float → Session
+withStarts s l = record { panner = s .panner; sources = s .sources; counts = s .counts; standing = s .standing; starts = l }
+
+-- another count for source i, and other numbers from its direction j on
 unfoldable pub restood : Session → ℕ → ℕ → ℕ → List Float → Session
 restood s i n j numbers = stood s i n (sets (s .standing) (at i j) numbers)
 
@@ -65,16 +76,16 @@ takenBack s i =
     let n = standingCount s i in
     restood s i (n - 1) (n - 1) (+0 ∷ +0 ∷ [])
 
--- keeps only the last, +0 into every place after the first; an empty list stays as it is
+-- keeps only the last, +0 into every place after the first; an empty list stays as it is. The last direction is moved as it is held, a NaN of a hand-made record too
 unfoldable pub settled : Session → ℕ → Session
 settled s i =
     let n = standingCount s i in
     let last = take 2 (drop (at i (n - 1)) (s .standing)) in
     cond (eqb n 0) s (restood s i 1 0 (last ++ replicate (depth * 2 - 2) +0))
 
--- the start row of source i, 40 places; its target: the row of the last standing direction, all +0 where none stands
+-- the start row of source i; its target: the row of the last standing direction, all +0 where none stands
 unfoldable pub startRow : Session → ℕ → List Float
-startRow s i = part 40 (s .starts) i
+startRow s i = part rowPlaces (s .starts) i
 
 unfoldable pub target : Session → ℕ → List Float
 target s i =
@@ -89,14 +100,7 @@ unfoldable pub newStart : Session → ℕ → List Float
 newStart s i = let row = target s i ++ drop (s .panner .«num_outputs») (startRow s i) in cond (ltb i (s .sources)) row (startRow s i)
 
 unfoldable pub rendered : Session → Session
-rendered s =
-    record {
-      panner = s .panner;
-      sources = s .sources;
-      counts = s .counts;
-      standing = s .standing;
-      starts = flatMap (newStart s) (range 8);
-    }
+rendered s = withStarts s (flatMap (newStart s) (range mostSources))
 
 -- ---- the session after a call, refused or accepted, and after a list of calls
 

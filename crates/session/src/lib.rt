@@ -5,18 +5,24 @@ ghost use lib.Dec.{ltb};
 ghost use Rattle.lists.specs.Lists.{any};
 ghost use Rattle.history.specs.Calls.{place, takeBack, settle};
 ghost use Rattle.history.specs.History.{depth};
-ghost use Rattle.session.specs.Session.{malformedSession, numberOf, stood};
+ghost use Rattle.mix.specs.Turns.{mostSources};
+ghost use Rattle.session.specs.Session.{malformedSession, onSource, numberOf, stood, withStarts};
 ghost use Rattle.session.specs.Answers.{answerOf};
+use mix::SOURCES;
+use mix::Starts;
 use panner::VbapPanner;
+use standing::Count;
+use standing::Counts;
 use standing::DEPTH;
+use standing::Standing;
 
-// The standing directions as crate standing has them; start gain o of source i at i * 40 + o. Unused places hold +0.
+// The counts and standing directions lie as crate standing says, the start rows as crate mix says.
 pub struct Session {
     pub panner: VbapPanner,
     pub sources: u8,
-    pub counts: [u8; 8],
-    pub standing: [f32; 256],
-    pub starts: [f32; 320],
+    pub counts: Counts,
+    pub standing: Standing,
+    pub starts: Starts,
 }
 
 // What a call on a session answers: the session after it, and 0 or the refusal's number. The session stands first, so that it is copied as it lies.
@@ -27,12 +33,12 @@ pub struct Answer {
 
 // ---- refusals
 
-// Whether a standing count is over 16.
-fn counts_over(counts: [u8; 8]) -> bool
+// Whether a standing count is over the depth.
+fn counts_over(counts: Counts) -> bool
     ensures { λ r. ⌜ r ≡ any (λ n. ltb depth n) counts ⌝ }
 {
     let mut i: usize = 0;
-    while i < 8 {
+    while i < SOURCES {
         if DEPTH < counts[i] {
             return true;
         }
@@ -41,33 +47,68 @@ fn counts_over(counts: [u8; 8]) -> bool
     false
 }
 
-// Whether its layout is malformed, its sources are not 1 to 8, or a standing count is over 16.
+// Whether its layout is malformed, its sources are not 1 to 8, or a standing count is over the depth.
 pub fn malformed_session(s: Session) -> bool
     ensures { λ r. ⌜ r ≡ malformedSession s ⌝ }
 {
     let panner = s.panner;
     let counts = s.counts;
-    panner::malformed(panner) | (s.sources < 1) | (8 < s.sources) | counts_over(counts)
+    panner::malformed(panner)
+        | (s.sources < 1)
+        | (SOURCES < s.sources as usize)
+        | counts_over(counts)
 }
 
-// The refusals that the calls on one source share, 0 where none applies. Settle has no other.
-fn refusal(s: Session, source: usize) -> u32
-    ensures { λ r. ⌜ r ≡ numberOf s (settle source) ⌝ }
+// The refusals that the calls on one source share: 11, then 5, and 0 where neither applies.
+fn source_refusal(s: Session, source: usize) -> u32
+    ensures { λ r. ⌜ r ≡ onSource s source 0 ⌝ }
 {
-    if malformed_session(s) {
+    let malformed = malformed_session(s);
+    let none = (s.sources as usize) <= source;
+    if malformed {
         return 11;
     }
-    if (s.sources as usize) <= source {
+    if none {
         return 5;
     }
     0
 }
 
-// ---- place, take back, settle
+// The number of a place: the shared refusals, then 6.
+pub fn place_refusal(s: Session, source: usize, az: f32, el: f32) -> u32
+    ensures { λ r. ⌜ r ≡ numberOf s (place source az el) ⌝ }
+{
+    let why = source_refusal(s, source);
+    if why != 0 {
+        return why;
+    }
+    let counts = s.counts;
+    if DEPTH <= counts[source] {
+        return 6;
+    }
+    0
+}
 
-// With another count for a source, and other standing directions. Made of the fields, so that the record is not copied on the way.
-fn stood(s: Session, source: usize, n: u8, standing: [f32; 256]) -> Session
-    requires { ⌜ source < 8 ⌝ }
+// The number of a take back: the shared refusals, then 7.
+fn take_back_refusal(s: Session, source: usize) -> u32
+    ensures { λ r. ⌜ r ≡ numberOf s (takeBack source) ⌝ }
+{
+    let why = source_refusal(s, source);
+    if why != 0 {
+        return why;
+    }
+    let counts = s.counts;
+    if counts[source] == 0 {
+        return 7;
+    }
+    0
+}
+
+// ---- a session by each kind of change. Made of the fields, so that the record is not copied on the way.
+
+// With another count for a source, and other standing directions.
+fn stood(s: Session, source: usize, n: Count, standing: Standing) -> Session
+    requires { ⌜ source < mostSources ⌝ }
     ensures { λ r. ⌜ r ≡ stood s source n standing ⌝ }
 {
     let panner = s.panner;
@@ -83,12 +124,31 @@ fn stood(s: Session, source: usize, n: u8, standing: [f32; 256]) -> Session
     }
 }
 
+// With other start rows.
+pub fn with_starts(s: Session, starts: Starts) -> Session
+    ensures { λ r. ⌜ r ≡ withStarts s starts ⌝ }
+{
+    let panner = s.panner;
+    let counts = s.counts;
+    let standing = s.standing;
+    Session {
+        panner,
+        sources: s.sources,
+        counts,
+        standing,
+        starts,
+    }
+}
+
+// ---- place, take back, settle
+
 // Appends a direction.
 pub fn place(s: Session, source: usize, az: f32, el: f32) -> Answer
     ensures { λ r. ⌜ r ≡ answerOf s (place source az el) ⌝ }
 {
-    let why = refusal(s, source);
+    let why = place_refusal(s, source, az, el);
     if why != 0 {
+        // a refused place leaves the session as it is
         return Answer {
             session: s,
             number: why,
@@ -96,12 +156,6 @@ pub fn place(s: Session, source: usize, az: f32, el: f32) -> Answer
     }
     let counts = s.counts;
     let n = counts[source];
-    if DEPTH <= n {
-        return Answer {
-            session: s,
-            number: 6,
-        };
-    }
     let standing = s.standing;
     let placed = standing::put(
         standing,
@@ -120,8 +174,9 @@ pub fn place(s: Session, source: usize, az: f32, el: f32) -> Answer
 pub fn take_back(s: Session, source: usize) -> Answer
     ensures { λ r. ⌜ r ≡ answerOf s (takeBack source) ⌝ }
 {
-    let why = refusal(s, source);
+    let why = take_back_refusal(s, source);
     if why != 0 {
+        // a refused take back leaves the session as it is
         return Answer {
             session: s,
             number: why,
@@ -129,12 +184,6 @@ pub fn take_back(s: Session, source: usize) -> Answer
     }
     let counts = s.counts;
     let n = counts[source];
-    if n == 0 {
-        return Answer {
-            session: s,
-            number: 7,
-        };
-    }
     let standing = s.standing;
     let rest = standing::put(standing, source, (n - 1) as usize, 0.0, 0.0);
     Answer {
@@ -145,10 +194,13 @@ pub fn take_back(s: Session, source: usize) -> Answer
 
 // Keeps only the last direction; an empty list stays as it is.
 pub fn settle(s: Session, source: usize) -> Answer
+    // The last direction is copied to the first place as it is held. In a hand-made record it may hold a NaN: the promise says that a NaN stands there afterwards,
+    // and the code copies its bits. Its sign and payload are not the program's choice, but the logic has one NaN and cannot say so.
     ensures { λ r. ⌜ r ≡ answerOf s (settle source) ⌝ }
 {
-    let why = refusal(s, source);
+    let why = source_refusal(s, source);
     if why != 0 {
+        // a refused settle leaves the session as it is
         return Answer {
             session: s,
             number: why,

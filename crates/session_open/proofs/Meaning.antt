@@ -14,10 +14,11 @@ use Rattle.panner.specs.Malformed.{malformedOf}
 use Rattle.panner.proofs.WellFormed.{well-formed}
 use Rattle.layout.specs.Layout.{outputsOf, active, layoutOf, tooManyTriplets, newRefusal, pannerOf}
 use Rattle.layout.proofs.Answers.{accepted-fits}
+use Rattle.mix.specs.Turns.{mostSources}
 use Rattle.history.specs.Calls.{place, takeBack, settle, render}
 use Rattle.history.specs.History.{depth}
-use Rattle.session.specs.Session.{malformedSession, numberOf}
-use Rattle.session.proofs.Refusals.{formed-is}
+use Rattle.session.specs.Session.{malformedBy, malformedSession, numberOf}
+use Rattle.session.proofs.Refusals.{formed-is, malformed-source}
 use Rattle.session_open.specs.Open.{fresh, openRefusal, noSession, openOf}
 use Rattle.session_open.specs.Meaning.{NoSessionRefused, OpenedFormed}
 use Rattle.session_open.specs.declared.Opened.{Opened}
@@ -26,18 +27,18 @@ use Rattle.session_open.proofs.Opening.{newNumber, openNumber, few-sour
 -- ---- the session beside a refused open
 
 no-session-malformed : malformedSession noSession ≡ true
-unfolding malformedSession noSession fresh
+unfolding malformedBy noSession fresh
 no-session-malformed = by (malformedOf noPanner)
   where
-    by : (b : Bool) → b || ltb 0 1 || ltb 8 0 || any (λ n. ltb depth n) (fresh noPanner 0 .counts) ≡ true
+    by : (b : Bool) → b || ltb 0 1 || ltb mostSources 0 || any (λ n. ltb depth n) (fresh noPanner 0 .counts) ≡ true
     by true = refl
     by false = refl
 
 pub no-session-refused : NoSessionRefused
 unfolding numberOf
-no-session-refused (place i az el) = rw no-session-malformed
-no-session-refused (takeBack i) = rw no-session-malformed
-no-session-refused (settle i) = rw no-session-malformed
+no-session-refused (place i az el) = malformed-source noSession i _ no-session-malformed
+no-session-refused (takeBack i) = malformed-source noSession i _ no-session-malformed
+no-session-refused (settle i) = malformed-source noSession i _ no-session-malformed
 no-session-refused (render L samples outputs) = rw no-session-malformed
 
 -- ---- an opened session
@@ -57,7 +58,7 @@ module _ (positions : List Float) (lfe : List ℕ) (sources : ℕ) where
   fresh-formed : openRefusal positions lfe sources ≡ 0 → malformedSession (fresh (pannerOf positions lfe) sources) ≡ false
   unfolding openRefusal newRefusal pannerOf fresh any
   fresh-formed z =
-      let p = opened-passed (eqb (length positions % 3) 0) (ltb 40 (outputsOf positions)) (tooManyTriplets (active positions lfe)) (ltb sources 1 || ltb 8 sources) z in
+      let p = opened-passed (eqb (length positions % 3) 0) (ltb 40 (outputsOf positions)) (tooManyTriplets (active positions lfe)) (ltb sources 1 || ltb mostSources sources) z in
       let f = few-sources sources (p .1) in
       formed-is (fresh (pannerOf positions lfe) sources)
       (record { panner = well-formed (layoutOf positions lfe) (accepted-fits positions lfe (new-number positions lfe ∙ p .0)); some = f .0; few = f .1; counts = refl })

@@ -16,6 +16,7 @@ use Rattle.layout.specs.declared.NewPanner.{NewPanner}
 use Rattle.layout.specs.Layout.{outputsOf, active, shapeOf, layoutOf, tooManyTriplets, newRefusal, pannerOf, newOf}
 use Rattle.layout.specs.Answers.{accepted}
 use Rattle.layout.proofs.Answers.{accepted-is}
+use Rattle.mix.specs.Turns.{mostSources}
 use Rattle.session_open.specs.Open.{fresh, openRefusal, refusedBy, openOf}
 use Rattle.session_open.specs.declared.Opened.{Opened}
 
@@ -52,10 +53,10 @@ number-late false b c e = absurd (true≢false e)
 number-late true true c e = absurd (true≢false e)
 number-late true false c e = refl
 
-pub few-sources : (n : ℕ) → ltb n 1 || ltb 8 n ≡ false → (1 ≤ n) × (n ≤ 8)
+pub few-sources : (n : ℕ) → ltb n 1 || ltb mostSources n ≡ false → (1 ≤ n) × (n ≤ mostSources)
 few-sources n e =
-    let p = neither (ltb n 1) (ltb 8 n) e in
-    (ltb-false n 1 (p .0), ltb-false 8 n (p .1))
+    let p = neither (ltb n 1) (ltb mostSources n) e in
+    (ltb-false n 1 (p .0), ltb-false mostSources n (p .1))
 
 number-of : (b : Bool) (x y : NewPanner) (why : ℕ) → eqb why 0 ≡ b → x .number ≡ 0 → y .number ≡ why → cond b x y .number ≡ why
 number-of true x y why e p q = p ∙ sym (eqb-true why 0 e)
@@ -93,20 +94,20 @@ module _ (positions : List Float) (lfe : List ℕ) where
       number-is = ap (λ (x : NewPanner). x .number) is ∙ new-number
 
       module _ (late : early (made .number) ≡ false) where
-        number-is-late : ltb sources 1 || ltb 8 sources ≡ false → openRefusal positions lfe sources ≡ made .number
+        number-is-late : ltb sources 1 || ltb mostSources sources ≡ false → openRefusal positions lfe sources ≡ made .number
         unfolding openRefusal newRefusal
         number-is-late d =
             ap (openNumber even many tris) d ∙ number-late even many tris (ap early (sym number-is) ∙ late) ∙ sym number-is
 
-        pub open-sources : ltb sources 1 || ltb 8 sources ≡ true → refusedBy 3 ≡ openOf positions lfe sources
+        pub open-sources : ltb sources 1 || ltb mostSources sources ≡ true → refusedBy 3 ≡ openOf positions lfe sources
         unfolding openRefusal newRefusal
         open-sources d =
             open-refused 3 (ap (openNumber even many tris) d ∙ number-sources even many tris (ap early (sym number-is) ∙ late)) (λ z. omega arith)
 
-        pub open-late : ltb sources 1 || ltb 8 sources ≡ false → (made .number ≡ 0 → ⊥) → refusedBy (made .number) ≡ openOf positions lfe sources
+        pub open-late : ltb sources 1 || ltb mostSources sources ≡ false → (made .number ≡ 0 → ⊥) → refusedBy (made .number) ≡ openOf positions lfe sources
         open-late d h = open-refused (made .number) (number-is-late d) h
 
-        pub open-done : ltb sources 1 || ltb 8 sources ≡ false → made .number ≡ 0
+        pub open-done : ltb sources 1 || ltb mostSources sources ≡ false → made .number ≡ 0
             → _≡_ {A = Opened} (record { number = 0; imaginary = made .imaginary; session = fresh (made .panner) sources }) (openOf positions lfe sources)
         unfolding accepted pannerOf
         open-done d z =
@@ -118,5 +119,5 @@ module _ (positions : List Float) (lfe : List ℕ) where
       unfolding openRefusal newRefusal
       open-early e =
           open-refused (made .number)
-          (number-early even many tris (ltb sources 1 || ltb 8 sources) (ap early (sym number-is) ∙ e) ∙ sym number-is)
+          (number-early even many tris (ltb sources 1 || ltb mostSources sources) (ap early (sym number-is) ∙ e) ∙ sym number-is)
           (λ z. false≢true (sym (ap early z) ∙ e))

@@ -10,6 +10,7 @@ use Rattle.panner.specs.declared.VbapPanner.{VbapPanner}
 use Rattle.panner.specs.Shape.{imaginaryIn}
 use Rattle.panner.specs.Panner.{noPanner}
 use Rattle.layout.specs.Layout.{outputsOf, active, layoutOf, tooManyTriplets, pannerOf}
+use Rattle.mix.specs.Turns.{mostSources, rowPlaces}
 use Rattle.history.specs.History.{depth}
 use Rattle.session.specs.declared.Session.{Session}
 use Rattle.session_open.specs.declared.Opened.{Opened}
@@ -17,14 +18,20 @@ use Rattle.session_open.specs.declared.Opened.{Opened}
 -- fresh: empty lists, start rows of +0, unused places +0
 unfoldable pub fresh : VbapPanner → ℕ → Session
 fresh v n =
-    record { panner = v; sources = n; counts = replicate 8 0; standing = replicate (8 * (depth * 2)) +0; starts = replicate 320 +0 }
+    record {
+      panner = v;
+      sources = n;
+      counts = replicate mostSources 0;
+      standing = replicate (mostSources * (depth * 2)) +0;
+      starts = replicate (mostSources * rowPlaces) +0;
+    }
 
--- 1 to 4, in rising order; 0 is accepted
+-- 1 to 4, in rising order; 0 is accepted. Origin of 3 numbers a position: document 01, refusal 1; of 40 positions: refusal 2; of 1 source: refusal 3.
 unfoldable pub openRefusal : List Float → List ℕ → ℕ → ℕ
 openRefusal positions lfe sources =
     cond (not (eqb (length positions % 3) 0)) 1
     (cond (ltb 40 (outputsOf positions)) 2
-    (cond (ltb sources 1 || ltb 8 sources) 3
+    (cond (ltb sources 1 || ltb mostSources sources) 3
     (cond (tooManyTriplets (active positions lfe)) 4 0)))
 
 -- a refused open returns no session: what the answer then holds is all 0, +0 and the crossfade, which every call refuses with 11

@@ -2,8 +2,11 @@
 ghost use mathlib.Core.Path.{_≡_};
 ghost use Rattle.panner.specs.Panner.{noPanner};
 ghost use Rattle.session_open.specs.Open.{fresh, refusedBy, openOf};
+use mix::GAINS;
+use mix::SOURCES;
 use panner::VbapPanner;
 use session::Session;
+use standing::PLACES;
 
 // What `open` answers: 0 or the refusal's number, how many imaginary points were made, and the session.
 pub struct Opened {
@@ -19,9 +22,9 @@ fn fresh(panner: VbapPanner, sources: u8) -> Session
     Session {
         panner,
         sources,
-        counts: [0; 8],
-        standing: [0.0; 256],
-        starts: [0.0; 320],
+        counts: [0; SOURCES],
+        standing: [0.0; PLACES],
+        starts: [0.0; GAINS],
     }
 }
 
@@ -47,7 +50,7 @@ fn refused(why: u32) -> Opened
     }
 }
 
-// A fresh session over the layout of the positions. Origin of 3 and of 8 sources: document 01, "Returned numbers"; 1, 2 and 4 are the layout's.
+// A fresh session over the layout of the positions. Origin of 3 and of at least 1 source: document 01, refusal 3; 1, 2 and 4 are the layout's.
 pub fn open(positions: &[f32], lfe: &[usize], sources: usize) -> Opened
     ensures { λ r. ⌜ r ≡ openOf (now (positions .entry)) (now (lfe .entry)) sources ⌝ }
 {
@@ -56,7 +59,7 @@ pub fn open(positions: &[f32], lfe: &[usize], sources: usize) -> Opened
     if (why == 1) | (why == 2) {
         return refused(why);
     }
-    if (sources < 1) | (8 < sources) {
+    if (sources < 1) | (SOURCES < sources) {
         return refused(3);
     }
     if why != 0 {

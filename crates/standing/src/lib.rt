@@ -1,21 +1,35 @@
-// The standing directions of all sources, by value. Direction j of source i at i * 32 + j * 2, its azimuth and then its elevation. Unused places hold +0.
+// The standing directions of all sources, by value.
 ghost use mathlib.Core.Path.{_≡_};
 ghost use mathlib.Core.List.{[], _∷_, _++_};
 ghost use Prim.Native.Nat.{_+_, _-_, _*_, _≤_, _<_};
 ghost use lib.ListN.{take, drop, replicate};
 ghost use lib.Seq.{sets};
 ghost use Rattle.ieee.specs.Values.{+0};
+ghost use Rattle.mix.specs.Turns.{mostSources};
 ghost use Rattle.history.specs.History.{depth};
+use mix::SOURCES;
 
-// How many directions may stand. Origin: document 01, refusal 6.
-pub const DEPTH: u8 = 16;
+// How many directions of a source stand. Origin: document 01, "Session", "their count in 8 bits".
+pub type Count = u8;
 
-// Numbers of the standing directions of a source. Origin: an azimuth and an elevation for each of 16.
-pub const WIDTH: usize = 32;
+// How many directions of a source may stand. Origin: document 01, refusal 6.
+pub const DEPTH: Count = 16;
+
+// Numbers of the standing directions of a source, 32. Origin: an azimuth and an elevation for each of DEPTH.
+pub const WIDTH: usize = (DEPTH as usize) * 2;
+
+// Numbers of the standing directions of all sources, 256. Origin: WIDTH for each of 8.
+pub const PLACES: usize = SOURCES * WIDTH;
+
+// Direction j of source i at i * WIDTH + j * 2, its azimuth and then its elevation. Unused places hold +0.
+pub type Standing = [f32; PLACES];
+
+// A count for each source.
+pub type Counts = [Count; SOURCES];
 
 // Another direction j of a source.
-pub fn put(standing: [f32; 256], source: usize, j: usize, az: f32, el: f32) -> [f32; 256]
-    requires { ⌜ (source < 8) × (j < depth) ⌝ }
+pub fn put(standing: Standing, source: usize, j: usize, az: f32, el: f32) -> Standing
+    requires { ⌜ (source < mostSources) × (j < depth) ⌝ }
     ensures { λ r. ⌜ r ≡ sets standing (source * (depth * 2) + j * 2) (az ∷ el ∷ []) ⌝ }
 {
     let k = source * WIDTH + j * 2;
@@ -25,10 +39,10 @@ pub fn put(standing: [f32; 256], source: usize, j: usize, az: f32, el: f32) -> [
     r
 }
 
-// The direction at `last` moved to `first`, and +0 into the fifteen places after it.
-fn keep_last(standing: [f32; 256], first: usize, last: usize) -> [f32; 256]
-    requires { ⌜ (first + 32 ≤ 256) × (last + 2 ≤ 256) ⌝ }
-    ensures { λ r. ⌜ r ≡ sets standing first (take 2 (drop last standing) ++ replicate 30 +0) ⌝ }
+// The direction at `last` moved to `first`, and +0 into the places after it.
+fn keep_last(standing: Standing, first: usize, last: usize) -> Standing
+    requires { ⌜ (first + depth * 2 ≤ mostSources * (depth * 2)) × (last + 2 ≤ mostSources * (depth * 2)) ⌝ }
+    ensures { λ r. ⌜ r ≡ sets standing first (take 2 (drop last standing) ++ replicate (depth * 2 - 2) +0) ⌝ }
 {
     let mut r = standing;
     r[first] = standing[last];
@@ -43,8 +57,8 @@ fn keep_last(standing: [f32; 256], first: usize, last: usize) -> [f32; 256]
 }
 
 // Of a source direction j alone, in its first place.
-pub fn keep(standing: [f32; 256], source: usize, j: usize) -> [f32; 256]
-    requires { ⌜ (source < 8) × (j < depth) ⌝ }
+pub fn keep(standing: Standing, source: usize, j: usize) -> Standing
+    requires { ⌜ (source < mostSources) × (j < depth) ⌝ }
     ensures { λ r. ⌜ r ≡ sets standing (source * (depth * 2)) (take 2 (drop (source * (depth * 2) + j * 2) standing) ++ replicate (depth * 2 - 2) +0) ⌝ }
 {
     let first = source * WIDTH;

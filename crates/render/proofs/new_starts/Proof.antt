@@ -8,6 +8,7 @@ use lib.ListN.{length, getD}
 use lib.Ieee.{Float, nan}
 use Rattle.lists.specs.Lists.{range}
 use Rattle.panner.specs.declared.VbapPanner.{VbapPanner}
+use Rattle.mix.specs.Turns.{mostSources, rowPlaces}
 use Rattle.history.specs.History.{depth}
 use Rattle.session.specs.Session.{target, newStart}
 use Rattle.session.specs.declared.Session.{Session}
@@ -25,7 +26,7 @@ held v counts standing n l = record { panner = v; sources = n; counts = counts; 
 
 abbrev Inv-loop : tie.InvT-loop
 Inv-loop panner counts standing sources outputs next₀ i₀ next i =
-    (i ≤ sources) × (length next ≡ 320) × Renewed 40 next₀ (newStart (held panner counts standing sources next₀)) i next
+    (i ≤ sources) × (length next ≡ mostSources * rowPlaces) × Renewed rowPlaces next₀ (newStart (held panner counts standing sources next₀)) i next
     × ((j : ℕ) → j < i → length (target (held panner counts standing sources next₀) j) ≡ outputs)
 
 abbrev μ-loop : tie.MeasureT-loop
@@ -39,8 +40,8 @@ whole-is : (c : tie.Start Inv-loop μ-loop) → whole c ≡ c .args .s
 whole-is c = ap (held (c .args .s .panner) (c .args .s .counts) (c .args .s .standing) (c .args .s .sources)) (c .pre .1)
 
 record Low (s : Session) (i : ℕ) : Type 0 where
-  source : i < 8
-  outputs : s .panner .«num_outputs» ≤ 40
+  source : i < mostSources
+  outputs : s .panner .«num_outputs» ≤ rowPlaces
   few : getD (s .counts) i 0 ≤ depth
 
 low : (c : tie.In-loop Inv-loop μ-loop) → Low (c .before .before .before .before .before .before .before .args .s) (c .before .loop .i)
@@ -62,7 +63,7 @@ cast-outputs c = search needs
 loop-holds : tie.Need-loop-holds Inv-loop μ-loop
 loop-holds c =
     let s = c .before .before .before .before .before in
-    (omega arith, s .good .1 .0 .1 .0 .1, renewed-none 40 _ (newStart (whole s)), λ j h. absurd (not-suc-le-zero h))
+    (omega arith, s .good .1 .0 .1 .0 .1, renewed-none rowPlaces _ (newStart (whole s)), λ j h. absurd (not-suc-le-zero h))
 
 array-read-n : tie.Need-array-read-n Inv-loop μ-loop
 array-read-n c = low c .source
@@ -141,7 +142,7 @@ target-requires c κs =
     let l = low (c .before .before) in
     let a = c .before .before .before in
     let s = a .before .before .before .before .before .before in
-    (formed (s .args .s) (s .pre .0) .panner, part-long (a .loop .next) (a .loop .i * 40) (s .args .s .panner .«num_outputs») (omega (arith, l .source, l .outputs, a .loop .inv .1)))
+    (formed (s .args .s) (s .pre .0) .panner, part-long (a .loop .next) (a .loop .i * rowPlaces) (s .args .s .panner .«num_outputs») (omega (arith, l .source, l .outputs, a .loop .inv .1)))
 
 add-i : tie.Need-add-i Inv-loop μ-loop
 add-i c = omega arith
@@ -158,9 +159,9 @@ loop-again c =
     let i = a .loop .i in
     let k = s .args .s .panner .«num_outputs» in
     let is : t .last .1 .1 .1 .1 .0 ≡ target (whole s) i = t .ensures ∙ target-at (whole s) i _ (c .before .before .before .last-of .ensures) in
-    let long = t .kept .1 .1 .1 .1 .0 ∙ part-long (a .loop .next) (i * 40) k (omega (arith, l .source, l .outputs, a .loop .inv .1)) in (
+    let long = t .kept .1 .1 .1 .1 .0 ∙ part-long (a .loop .next) (i * rowPlaces) k (omega (arith, l .source, l .outputs, a .loop .inv .1)) in (
       omega arith,
-      same-len-mid (i * 40) (i * 40 + k - i * 40) (a .loop .next) (t .last .1 .1 .1 .1 .0) (t .kept .1 .1 .1 .1 .0) ∙ a .loop .inv .1,
+      same-len-mid (i * rowPlaces) (i * rowPlaces + k - i * rowPlaces) (a .loop .next) (t .last .1 .1 .1 .1 .0) (t .kept .1 .1 .1 .1 .0) ∙ a .loop .inv .1,
       row-made (whole s) (s .good .1 .0 .1 .0 .1) i (t .last .1 .1 .1 .1 .0) (l .outputs) (l .source) (c .before .before .before .before .loop-test .taken) is long (a .loop .inv .2),
       below-more i (a .loop .inv .3) (ap length (sym is) ∙ long),
     )
@@ -172,9 +173,9 @@ returns c =
     let few = formed (s .args .s) (s .pre .0) .few in
     let all = s .good .1 .0 .1 .0 .1 in
     let made = rows-made (whole s) all (a .loop .i) (c .loop-test .left) (omega arith) (a .loop .inv .2) in (
-      made ∙ ap (λ (w : Session). flatMap (newStart w) (range 8)) (whole-is s),
+      made ∙ ap (λ (w : Session). flatMap (newStart w) (range mostSources)) (whole-is s),
       λ i o g h.
-          ap (λ (l : List Float). getD l (i * 40 + o) nan) made
+          ap (λ (l : List Float). getD l (i * rowPlaces + o) nan) made
           ∙ getD-new (whole s) (outputs-low (s .args .s) (s .pre .0)) all (λ j k. a .loop .inv .3 j (omega arith)) i o (omega arith) g h
           ∙ ap (λ (w : Session). getD (target w i) o nan) (whole-is s),
     )

@@ -3,6 +3,7 @@ use mathlib.Core.Path.{_≡_, refl, sym, _∙_}
 use mathlib.Core.Bool.{false}
 use native.Mathlib.Omega.{arith}
 use borrow.Author.Tests.{lt-ltb, le-ltb, eq-eqb, ne-eqb}
+use Rattle.history.specs.History.{longestBlock}
 use Rattle.session.specs.Session.{malformedSession}
 use Rattle.session.proofs.Refusals.{formed}
 use Rattle.render.proofs.Numbers.{small-product, outputs-low, number-is}
@@ -23,7 +24,7 @@ returns-2 : tie.Need-returns-2
 returns-2 c = sym (number-is _ _ _ _ (good (c .before)) (eq-eqb _ 0 (c .if2 .taken)) refl refl refl)
 
 returns-3 : tie.Need-returns-3
-returns-3 c = sym (number-is _ _ _ _ (good (c .before .before)) (ne-eqb _ 0 (c .before .if2 .left)) (lt-ltb 1024 _ (c .if3 .taken)) refl refl)
+returns-3 c = sym (number-is _ _ _ _ (good (c .before .before)) (ne-eqb _ 0 (c .before .if2 .left)) (lt-ltb longestBlock _ (c .if3 .taken)) refl refl)
 
 cast-if4 : tie.Need-cast-if4
 cast-if4 c = search needs
@@ -37,7 +38,7 @@ mul-if4 c =
 returns-4 : tie.Need-returns-4
 returns-4 c =
     let d = c .before .before in
-    sym (number-is _ _ _ _ (good (d .before .before)) (ne-eqb _ 0 (d .before .if2 .left)) (le-ltb 1024 _ (d .if3 .left)) (ne-eqb _ _ (c .if4 .taken)) refl)
+    sym (number-is _ _ _ _ (good (d .before .before)) (ne-eqb _ 0 (d .before .if2 .left)) (le-ltb longestBlock _ (d .if3 .left)) (ne-eqb _ _ (c .if4 .taken)) refl)
 
 cast-if5 : tie.Need-cast-if5
 cast-if5 c = search needs
@@ -52,14 +53,14 @@ returns-5 : tie.Need-returns-5
 returns-5 c =
     let d = c .before .before .before .before in
     sym
-    (number-is _ _ _ _ (good (d .before .before)) (ne-eqb _ 0 (d .before .if2 .left)) (le-ltb 1024 _ (d .if3 .left)) (eq-eqb _ _ (c .before .before .if4 .left))
+    (number-is _ _ _ _ (good (d .before .before)) (ne-eqb _ 0 (d .before .if2 .left)) (le-ltb longestBlock _ (d .if3 .left)) (eq-eqb _ _ (c .before .before .if4 .left))
     (ne-eqb _ _ (c .if5 .taken)))
 
 returns-6 : tie.Need-returns-6
 returns-6 c =
     let d = c .before .before .before .before in
     sym
-    (number-is _ _ _ _ (good (d .before .before)) (ne-eqb _ 0 (d .before .if2 .left)) (le-ltb 1024 _ (d .if3 .left)) (eq-eqb _ _ (c .before .before .if4 .left))
+    (number-is _ _ _ _ (good (d .before .before)) (ne-eqb _ 0 (d .before .if2 .left)) (le-ltb longestBlock _ (d .if3 .left)) (eq-eqb _ _ (c .before .before .if4 .left))
     (eq-eqb _ _ (c .if5 .left)))
 
 pub refusal-spec : {M : Type 1} → statement M

@@ -1,9 +1,10 @@
 -- `render::render` meets its contract: a refusal leaves session and buffer, and else the new start rows and the mix are the definition's. Assumes nothing.
 use mathlib.Core.Path.{refl, sym, _∙_}
 use Rattle.session.proofs.Refusals.{formed}
+use Rattle.session.proofs.Answers.{refused-as}
 use Rattle.render.proofs.Numbers.{Admitted, admitted, outputs-low}
 use Rattle.render.proofs.Mixing.{mix-same}
-use Rattle.render.proofs.Answers.{render-refused, buffer-refused, render-done, buffer-done}
+use Rattle.render.proofs.Answers.{buffer-refused, render-done, buffer-done}
 use borrow.Author.Needs.{needs}
 use Rattle.render.proofs.render.Statement.{statement}
 use Rattle.render.proofs.render.Tie as tie
@@ -23,7 +24,7 @@ returns : tie.Need-returns
 returns c =
     let s = c .before .before .before .before .before .args in
     let w = c .before .refusal .ensures in
-    (render-refused (s .s) (s .block) (s .samples .now) (s .outputs .now) w (c .if1 .taken), buffer-refused (s .s) (s .block) (s .samples .now) (s .outputs .now) w (c .if1 .taken))
+    (refused-as _ _ w (c .if1 .taken), buffer-refused (s .s) (s .block) (s .samples .now) (s .outputs .now) w (c .if1 .taken))
 
 new-starts-requires : tie.Need-new-starts-requires
 new-starts-requires c κs = (passed (c .before) .formed, refl)
@@ -41,17 +42,21 @@ mix-requires c κs =
     let s = d .before .before .before .before .before .args .s in
     (outputs-low s (p .formed), formed s (p .formed) .few, p .sampled, p .lent)
 
+with-starts-requires : tie.Need-with-starts-requires
+with-starts-requires c κs = search needs
+
 same-length-2 : tie.Need-same-length-2
 same-length-2 c = search needs
 
 returns-2 : tie.Need-returns-2
 returns-2 c =
-    let d = c .before .before .before .before .before .before .before .before .before .before in
+    let m = c .before .before .before in
+    let d = m .before .before .before .before .before .before .before .before in
     let s = d .before .before .before .before .before .args in
     let w = d .before .refusal .ensures in
-    let n = c .before .before .before .before .before .before .before .before .new-starts in (
-      render-done (s .s) (s .block) (s .samples .now) (s .outputs .now) w (d .if1 .left) (n .ensures .0),
-      c .before .before .mix .ensures
+    let n = m .before .before .before .before .before .before .new-starts in (
+      render-done (s .s) (s .block) (s .samples .now) (s .outputs .now) w (d .if1 .left) (n .ensures .0) (c .with-starts .ensures),
+      m .mix .ensures
           ∙ mix-same (s .s) (s .block) (s .samples .now) (n .result) (outputs-low (s .s) (passed d .formed)) (n .ensures .1) (s .outputs .now)
           ∙ buffer-done (s .s) (s .block) (s .samples .now) (s .outputs .now) w (d .if1 .left),
     )
@@ -67,5 +72,6 @@ render-spec =
     cast-mix
     cast-mix-2
     mix-requires
+    with-starts-requires
     same-length-2
     returns-2)

@@ -1,17 +1,19 @@
 -- `standing::keep_last` meets its contract. The loop's invariant: the stores left from here give what all of them give. Assumes nothing.
-use Prim.Native.Nat.{_+_, _-_, _≤_}
+use Prim.Native.Nat.{_+_, _-_, _*_, _≤_}
 use mathlib.Core.Path.{_≡_, refl, sym, _∙_}
 use lib.Ieee.{nan, ofBits}
 use lib.ListN.{length, replicate}
 use lib.Seq.{sets}
 use Rattle.ieee.specs.Values.{+0}
+use Rattle.mix.specs.Turns.{mostSources}
+use Rattle.history.specs.History.{depth}
 use Rattle.standing.proofs.Stores.{sets-step, sets-done}
 use native.Mathlib.Omega.{arith}
 use Rattle.standing.proofs.keep_last.Statement.{statement}
 use Rattle.standing.proofs.keep_last.Tie as tie
 
 abbrev Inv-loop : tie.InvT-loop
-Inv-loop first last r₀ end k₀ r k = (k ≤ end) × (end ≤ 256) × (sets r k (replicate (end - k) +0) ≡ sets r₀ k₀ (replicate (end - k₀) +0))
+Inv-loop first last r₀ end k₀ r k = (k ≤ end) × (end ≤ mostSources * (depth * 2)) × (sets r k (replicate (end - k) +0) ≡ sets r₀ k₀ (replicate (end - k₀) +0))
 
 abbrev μ-loop : tie.MeasureT-loop
 μ-loop first last r₀ end k₀ r k = end - k
@@ -70,7 +72,7 @@ loop-less c = omega arith
 loop-again : tie.Need-loop-again Inv-loop μ-loop
 unfolding ofBits
 loop-again c =
-    let e = c .before .before .args .first + 32 in (
+    let e = c .before .before .args .first + depth * 2 in (
       omega arith,
       omega arith,
       sym (sets-step (c .before .loop .r) (c .before .loop .k) e +0 (c .loop-test .taken)) ∙ c .before .loop .inv .2,
@@ -79,8 +81,8 @@ loop-again c =
 returns : tie.Need-returns Inv-loop μ-loop
 returns c =
     let a = c .before .before .args in
-    let long : length (a .t1) ≡ 256 = c .before .before .good .0 .1 .0 .1 in
-    sets-done (a .t1) (c .before .loop .r) (a .first) (a .last) (c .before .loop .k) 30 nan +0 (omega arith) (c .loop-test .left) (c .before .loop .inv .2)
+    let long : length (a .t1) ≡ mostSources * (depth * 2) = c .before .before .good .0 .1 .0 .1 in
+    sets-done (a .t1) (c .before .loop .r) (a .first) (a .last) (c .before .loop .k) (depth * 2 - 2) nan +0 (omega arith) (c .loop-test .left) (c .before .loop .inv .2)
 
 pub keep-last-spec : {M : Type 1} → statement M
 keep-last-spec =
