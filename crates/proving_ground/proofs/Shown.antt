@@ -1,9 +1,10 @@
--- The table is shown: every case by computing the definitions; a layout that is not malformed keeps the session's tests shut. Assumes nothing.
-use Prim.Native.Nat.{ℕ}
+-- The table is shown: the cases of one layout by computing the definitions, those of a session by the laws of its calls. Assumes nothing.
+use Prim.Native.Nat.{ℕ, _*_}
 use mathlib.Core.Path.{_≡_, refl, ap, _∙_}
 use mathlib.Core.Bool.{true, false}
 use mathlib.Core.List.{[], _∷_, _++_, flatMap}
 use native.Mathlib.Nat.{zero-min}
+use native.Mathlib.Omega.{arith}
 use lib.Ieee.{Float, size, round, neg, add, sub, mul, div, rem, lt, eq, le, ofInt, ofBits, toBits, toUnsigned, isNan}
 use Rattle.lists.specs.Lists.{from, range, collect, every, any, isEmpty, firstThat, last, filled, part}
 use Rattle.ieee.specs.Values.{+0, 1·0, abs, signBit, isFinite}
@@ -30,9 +31,14 @@ use Rattle.planar_row.specs.PlanarRow.{Two, tau32, addAt, rel, contains, chosen
 use Rattle.gains.specs.Gains.{finiteOr0, rowIn, rowOf, gainsOf}
 use Rattle.ramp.specs.Ramp.{rampGain, rampAddOf}
 use Rattle.mixed_gain.specs.Mixed.{normSqOf, normalizedLerpGainOf}
+use Rattle.mix.specs.Turns.{mostSources}
 use Rattle.history.specs.Calls.{place, takeBack}
+use Rattle.history.specs.History.{depth}
 use Rattle.session_open.specs.Open.{fresh}
-use Rattle.session.specs.Session.{malformedSession, numberOf, restood, placed, takenBack, accepted, after, afterAll}
+use Rattle.session.specs.Session.{malformedBy, malformedSession, numberOf, afterAll}
+use Rattle.session.proofs.Refusals.{on-source}
+use Rattle.sessions_equal.proofs.Rows.{getD-fill}
+use Rattle.sessions_equal.proofs.PlacedBack.{placed-back}
 use Rattle.proving_ground.specs.Table.{F, Table}
 
 -- ---- F as an active speaker in slot i: level, and straight ahead
@@ -143,13 +149,23 @@ F-F-F-rows az el = ap (rowIn 3 (finiteOr0 az) (finiteOr0 el)) F-F-F
 
 -- ---- a session with one source
 
-taken-from-fresh : (v : VbapPanner) → malformedOf v ≡ false → numberOf (fresh v 1) (takeBack 0) ≡ 7
-unfolding fresh malformedSession numberOf any
-taken-from-fresh v formed = rw formed refl
+fresh-formed : (v : VbapPanner) → malformedOf v ≡ false → malformedSession (fresh v 1) ≡ false
+unfolding fresh malformedBy any
+fresh-formed v formed = rw formed refl
 
+taken-from-fresh : (v : VbapPanner) → malformedOf v ≡ false → numberOf (fresh v 1) (takeBack 0) ≡ 7
+unfolding fresh numberOf
+taken-from-fresh v formed = on-source (fresh v 1) 0 7 (fresh-formed v formed) refl
+
+placed-in-fresh : (v : VbapPanner) → malformedOf v ≡ false → (az el : Float) → numberOf (fresh v 1) (place 0 az el) ≡ 0
+unfolding fresh numberOf
+placed-in-fresh v formed az el = on-source (fresh v 1) 0 0 (fresh-formed v formed) refl
+
+-- every place of a fresh session holds +0, so the two that are written and freed do
 placed-and-taken : (v : VbapPanner) → malformedOf v ≡ false → (az el : Float) → afterAll (fresh v 1) (place 0 az el ∷ takeBack 0 ∷ []) ≡ fresh v 1
-unfolding fresh malformedSession numberOf accepted after afterAll placed takenBack restood any
-placed-and-taken v formed az el = rw (formed, formed) refl
+unfolding fresh
+placed-and-taken v formed az el =
+    placed-back (fresh v 1) 0 az el (placed-in-fresh v formed az el) (omega arith) (getD-fill [] (mostSources * (depth * 2)) 0 +0) (getD-fill [] (mostSources * (depth * 2)) 1 +0)
 
 -- ---- the table
 

@@ -1,8 +1,8 @@
--- Every float that a history holds is finite and of 32 bits: an angle once it counts as +0 where it is not finite, and a gain of an accepted layout. So is every float of the session. Assumes nothing.
-use Prim.Native.Nat.{ℕ, zero, suc, _-_, _≤_}
+-- Every float that a history holds is finite and of 32 bits: an angle once it counts as +0 where it is not finite, and a gain of an accepted layout. So is every float of the session, and what has the same bits is the same. Assumes nothing.
+use Prim.Native.Nat.{ℕ, _-_, _*_, _≤_}
 use mathlib.Core.Path.{_≡_, refl, sym, ap, _∙_}
 use mathlib.Core.Bool.{Bool, true, false, cond}
-use mathlib.Core.List.{List, [], _∷_, map}
+use mathlib.Core.List.{List, [], _∷_, map, flatMap}
 use native.Mathlib.Omega.{arith}
 use lib.Dec.{T, eqb}
 use lib.ListN.{length, replicate}
@@ -12,21 +12,23 @@ use Rattle.lists.specs.Lists.{Each}
 use Rattle.ieee.specs.Values.{+0, isFinite}
 use Rattle.panner.specs.declared.VbapPanner.{VbapPanner}
 use Rattle.panner.specs.Shape.{Layout}
+use Rattle.panner.specs.Panner.{laid}
 use Rattle.layout.specs.Layout.{layoutOf, pannerOf}
 use Rattle.gains.specs.Gains.{finiteOr0, rowOf}
 use Rattle.sound.specs.Sound.{Number}
-use Rattle.lists.proofs.Each.{each-append, each-replicate, each-drop, each-imply, each-both, each-flatMap, foldl-keeps, each-change, each-butLast, each-map}
+use Rattle.lists.proofs.Each.{each-append, each-replicate, each-drop, each-imply, each-both, each-or, each-filled, each-flatMap, foldl-keeps, each-change, each-butLast, each-map}
 use Rattle.sound.proofs.Layouts.{panner-no-nan}
 use Rattle.row_sound.proofs.Rows.{or-fits, row-finite}
+use Rattle.mix.specs.Turns.{mostSources, rowPlaces}
 use Rattle.history.specs.Calls.{Call, place, takeBack, settle, render}
-use Rattle.history.specs.History.{Direction, Past, beginning, refusal, onlyLast, lastRow, rerowed, made, step, history}
+use Rattle.history.specs.History.{Direction, Past, beginning, depth, refusal, onlyLast, lastRow, rerowed, made, step, history, past}
 use Rattle.session.specs.declared.Session.{Session}
-use Rattle.session_open.specs.Open.{openOf}
 use Rattle.session.specs.Session.{afterAll}
-use Rattle.sessions_equal.specs.Bits.{Fits32, CallFits, NeverNan, SameBits, Demand3Bits}
-use Rattle.sessions_equal.proofs.Slots.{slots, padTo}
-use Rattle.sessions_equal.proofs.Encode.{dirs, start, full, encode}
-use Rattle.sessions_equal.proofs.RowFits.{rowOf-fits}
+use Rattle.sessions_equal.specs.Demand3.{Alike, Given, opened, historyOf, pastOf, Comparable}
+use Rattle.sessions_equal.specs.Laid.{numbersIn, placesOf, startOf, laidAt}
+use Rattle.sessions_equal.specs.Bits.{Fits32, CallFits, NeverNan, bits, pairBits, directionBits, SamePanner, SameBits, AlikeBits, Demand3Bits}
+use Rattle.sessions_equal.proofs.Fields.{same-session}
+use Rattle.sessions_equal.proofs.RowFits.{gains-fit}
 use Rattle.sessions_equal.proofs.Theorem.{setting, stands, demand3}
 
 -- a finite value of 32 bits
@@ -63,15 +65,15 @@ pub record HeldPast (p : Past) : Type 0 where
   pub standing : Each HeldDirection (p .standing)
   pub row : Each Finite32 (p .row)
 
-module _ (positions : List Float) (lfe : List ℕ) (fit : Each Fits32 positions) (narrow : layoutOf positions lfe .outputs ≤ 40) where
+module _ (g : Given) (fit : Each Fits32 (g .positions)) where
   abbrev l : Layout
-  l = layoutOf positions lfe
+  l = layoutOf (g .positions) (g .lfe)
 
   row-held : (az el : Float) → Fits32 az → Fits32 el → Each Finite32 (rowOf l (l .outputs) az el)
   unfolding layoutOf
   row-held az el a e =
       each-both Fits32 (λ g. T (isFinite g)) Finite32 (λ g p q. record { held = p; bounded = q }) (rowOf l (l .outputs) az el)
-      (rowOf-fits l (l .outputs) az el) (row-finite positions lfe fit narrow (l .outputs) az el a e)
+      (gains-fit l (l .outputs) az el) (row-finite (g .positions) (g .lfe) fit (setting g .narrow) (l .outputs) az el a e)
 
   lastRow-held : (ds : List Direction) → Each HeldDirection ds → Each Finite32 (lastRow l ds)
   unfolding lastRow
@@ -101,98 +103,154 @@ module _ (positions : List Float) (lfe : List ℕ) (fit : Each Fits32 positions)
       by true = made-held ps c f h
       by false = h
 
-  history-held : (sources : ℕ) (calls : List Call) → Each CallFits calls → Each HeldPast (history positions lfe sources calls)
+  beginning-held : HeldPast (beginning l)
+  beginning-held = record { standing = tt; row = each-replicate Finite32 (l .outputs) +0 zero-finite }
+
+  history-held : (calls : List Call) → Each CallFits calls → Each HeldPast (historyOf g calls)
   unfolding history
-  history-held sources calls f =
-      foldl-keeps (Each HeldPast) CallFits (step l) (λ ps c g h. step-held ps c g h) calls f (replicate sources (beginning l))
-      (each-replicate HeldPast sources (beginning l) (record { standing = tt; row = each-replicate Finite32 (l .outputs) +0 zero-finite }))
+  history-held calls f =
+      foldl-keeps (Each HeldPast) CallFits (step l) (λ ps c k h. step-held ps c k h) calls f (replicate (g .sources) (beginning l))
+      (each-replicate HeldPast (g .sources) (beginning l) beginning-held)
+
+  past-held : (calls : List Call) → Each CallFits calls → (i : ℕ) → HeldPast (pastOf g calls i)
+  unfolding past
+  past-held calls f i = each-or HeldPast (historyOf g calls) i (beginning l) (history-held calls f) beginning-held
 
 -- ---- what the session holds
-
-slots-held : (n : ℕ) (ds : List Direction) → Each HeldDirection ds → Each Finite32 (slots n ds)
-unfolding slots
-slots-held zero ds h = tt
-slots-held (suc n) [] h = (zero-finite, (zero-finite, slots-held n [] tt))
-slots-held (suc n) (d ∷ ds) h = (h .0 .azimuth, (h .0 .elevation, slots-held n ds (h .1)))
-
-padTo-held : (n : ℕ) (r : List Float) → Each Finite32 r → Each Finite32 (padTo n r)
-unfolding padTo
-padTo-held zero r h = tt
-padTo-held (suc n) [] h = (zero-finite, padTo-held n [] tt)
-padTo-held (suc n) (x ∷ r) h = (h .0, padTo-held n r (h .1))
 
 pub record HeldSession (s : Session) : Type 0 where
   pub standing : Each Finite32 (s .standing)
   pub starts : Each Finite32 (s .starts)
 
-encode-held : (v : VbapPanner) (l : Layout) (n : ℕ) (ps : List Past) → Each HeldPast ps → HeldSession (encode v l n ps)
-unfolding encode
-encode-held v l n ps h =
-    let all : Each HeldPast (full l n ps) =
-    each-append HeldPast ps (replicate (8 - n) (beginning l)) h
-    (each-replicate HeldPast (8 - n) (beginning l) (record { standing = tt; row = each-replicate Finite32 (l .outputs) +0 zero-finite })) in
+laid-held : (deep : ℕ) (v : VbapPanner) (ps : List Past) → Each HeldPast ps → HeldSession (laidAt deep v ps)
+unfolding laidAt placesOf numbersIn startOf
+laid-held deep v ps h =
     record {
-      standing = each-flatMap Finite32 dirs (full l n ps) (each-imply HeldPast (λ p. Each Finite32 (dirs p)) (λ p k. slots-held 16 (p .standing) (k .standing)) (full l n ps) all);
-      starts = each-flatMap Finite32 start (full l n ps) (each-imply HeldPast (λ p. Each Finite32 (start p)) (λ p k. padTo-held 40 (p .row) (k .row)) (full l n ps) all);
+      standing =
+          each-filled Finite32 (mostSources * (deep * 2)) +0 (flatMap (placesOf deep) ps) zero-finite
+          (each-flatMap Finite32 (placesOf deep) ps (each-imply HeldPast (λ p. Each Finite32 (placesOf deep p))
+          (λ p k. each-filled Finite32 (deep * 2) +0 (numbersIn (p .standing)) zero-finite (numbers-held (p .standing) (k .standing))) ps h));
+      starts =
+          each-filled Finite32 (mostSources * rowPlaces) +0 (flatMap startOf ps) zero-finite
+          (each-flatMap Finite32 startOf ps (each-imply HeldPast (λ p. Each Finite32 (startOf p)) (λ p k. each-filled Finite32 rowPlaces +0 (p .row) zero-finite (k .row)) ps h));
     }
+  where
+    numbers-held : (ds : List Direction) → Each HeldDirection ds → Each Finite32 (numbersIn ds)
+    numbers-held ds k =
+        each-flatMap Finite32 (λ d. d .azimuth ∷ d .elevation ∷ []) ds
+        (each-imply HeldDirection (λ d. Each Finite32 (d .azimuth ∷ d .elevation ∷ [])) (λ d j. (j .azimuth, (j .elevation, tt))) ds k)
 
-reached-held : (positions : List Float) (lfe : List ℕ) (sources : ℕ) → Each Fits32 positions → openOf positions lfe sources .number ≡ 0
-    → (calls : List Call) → Each CallFits calls → HeldSession (afterAll (openOf positions lfe sources .session) calls)
-reached-held positions lfe sources fit a calls f =
-    let r = stands positions lfe sources a calls in
-    rw (r .1)
-    (encode-held (pannerOf positions lfe) (layoutOf positions lfe) sources (history positions lfe sources calls)
-    (history-held positions lfe fit (setting positions lfe sources a .narrow) sources calls f))
+module _ (g : Given) (calls : List Call) where
+  reached-held : Each Fits32 (g .positions) → Each CallFits calls → HeldSession (afterAll (opened g) calls)
+  reached-held fit f = rw (stands g calls) (laid-held depth (pannerOf (g .positions) (g .lfe)) (historyOf g calls) (history-held g fit calls f))
 
-reached-panner : (positions : List Float) (lfe : List ℕ) (sources : ℕ) → openOf positions lfe sources .number ≡ 0
-    → (calls : List Call) → afterAll (openOf positions lfe sources .session) calls .panner ≡ pannerOf positions lfe
-unfolding encode
-reached-panner positions lfe sources a calls = ap (λ (s : Session). s .panner) (stands positions lfe sources a calls .1)
+  reached-panner : afterAll (opened g) calls .panner ≡ laid (layoutOf (g .positions) (g .lfe))
+  unfolding laidAt pannerOf
+  reached-panner = ap (λ (s : Session). s .panner) (stands g calls)
 
 pub never-nan : NeverNan
-never-nan positions lfe sources fit a calls f =
-    let h = reached-held positions lfe sources fit a calls f in
-    let s = afterAll (openOf positions lfe sources .session) calls in
+unfolding pannerOf
+never-nan g fit calls f =
+    let h = reached-held g calls fit f in
+    let s = afterAll (opened g) calls in
     record {
-      panner = rw (reached-panner positions lfe sources a calls) (panner-no-nan positions lfe fit);
+      panner = rw (reached-panner g calls) (panner-no-nan (g .positions) (g .lfe) fit);
       standing = each-imply Finite32 Number finite-number (s .standing) (h .standing);
       starts = each-imply Finite32 Number finite-number (s .starts) (h .starts);
     }
 
--- ---- equal bits
+-- ---- equal bits are equal
 
-bits-same : (xs ys : List Float) → Each Finite32 xs → Each Finite32 ys → map (toBits binary32) xs ≡ map (toBits binary32) ys → xs ≡ ys
-bits-same [] [] h k e = refl
-bits-same [] (y ∷ ys) h k e = absurd (omega (arith, ap length e))
-bits-same (x ∷ xs) [] h k e = absurd (omega (arith, ap length e))
-bits-same (x ∷ xs) (y ∷ ys) h k e =
-    let b : toBits binary32 x ≡ toBits binary32 y = cc in
-    let t : map (toBits binary32) xs ≡ map (toBits binary32) ys = cc in
-    let p : x ≡ y = sym (ofBits-toBits binary32 x (h .0 .held)) ∙ ap (ofBits binary32) b ∙ ofBits-toBits binary32 y (k .0 .held) in
-    let q : xs ≡ ys = bits-same xs ys (h .1) (k .1) t in
+float-same : (x y : Float) → Finite32 x → Finite32 y → bits x ≡ bits y → x ≡ y
+float-same x y h k e = sym (ofBits-toBits binary32 x (h .held)) ∙ ap (ofBits binary32) e ∙ ofBits-toBits binary32 y (k .held)
+
+floats-same : (xs ys : List Float) → Each Finite32 xs → Each Finite32 ys → map bits xs ≡ map bits ys → xs ≡ ys
+floats-same [] [] h k e = refl
+floats-same [] (y ∷ ys) h k e = absurd (omega (arith, ap length e))
+floats-same (x ∷ xs) [] h k e = absurd (omega (arith, ap length e))
+floats-same (x ∷ xs) (y ∷ ys) h k e =
+    let b : bits x ≡ bits y = cc in
+    let t : map bits xs ≡ map bits ys = cc in
+    let p : x ≡ y = float-same x y (h .0) (k .0) b in
+    let q : xs ≡ ys = floats-same xs ys (h .1) (k .1) t in
     cc
 
-same-session : (s t : Session) → HeldSession s → HeldSession t → SameBits s t → s ≡ t
-same-session s t h k b =
-    let d = bits-same (s .standing) (t .standing) (h .standing) (k .standing) (b .standing) in
-    let r = bits-same (s .starts) (t .starts) (h .starts) (k .starts) (b .starts) in
-    λ i. record { panner = b .panner i; sources = b .sources i; counts = b .counts i; standing = d i; starts = r i }
+directions-same : (ds es : List Direction) → Each HeldDirection ds → Each HeldDirection es → map directionBits ds ≡ map directionBits es → ds ≡ es
+unfolding directionBits
+directions-same [] [] h k e = refl
+directions-same [] (b ∷ es) h k e = absurd (omega (arith, ap length e))
+directions-same (a ∷ ds) [] h k e = absurd (omega (arith, ap length e))
+directions-same (a ∷ ds) (b ∷ es) h k e =
+    let x : bits (a .azimuth) ≡ bits (b .azimuth) = cc in
+    let y : bits (a .elevation) ≡ bits (b .elevation) = cc in
+    let t : map directionBits ds ≡ map directionBits es = cc in
+    let az = float-same (a .azimuth) (b .azimuth) (h .0 .azimuth) (k .0 .azimuth) x in
+    let el = float-same (a .elevation) (b .elevation) (h .0 .elevation) (k .0 .elevation) y in
+    let r = directions-same ds es (h .1) (k .1) t in
+    λ i. record { azimuth = az i; elevation = el i } ∷ r i
 
-same-bits : (s t : Session) → s ≡ t → SameBits s t
-same-bits s t e =
+alike-by-bits : (p q : Past) → HeldPast p → HeldPast q → AlikeBits p q → Alike p q
+alike-by-bits p q h k b =
     record {
-      panner = ap (λ (x : Session). x .panner) e;
+      directions = directions-same (p .standing) (q .standing) (h .standing) (k .standing) (b .directions);
+      gains = floats-same (p .row) (q .row) (h .row) (k .row) (b .gains);
+    }
+
+session-by-bits : (s t : Session) → s .panner ≡ t .panner → HeldSession s → HeldSession t → SameBits s t → s ≡ t
+session-by-bits s t p h k b =
+    same-session s t
+    (record {
+      panner = p;
+      sources = b .sources;
+      counts = b .counts;
+      standing = floats-same (s .standing) (t .standing) (h .standing) (k .standing) (b .standing);
+      starts = floats-same (s .starts) (t .starts) (h .starts) (k .starts) (b .starts);
+    })
+
+-- ---- and what is equal has equal bits
+
+bits-alike : (p q : Past) → Alike p q → AlikeBits p q
+bits-alike p q a = record { directions = ap (map directionBits) (a .directions); gains = ap (map bits) (a .gains) }
+
+bits-panner : (v w : VbapPanner) → v ≡ w → SamePanner v w
+bits-panner v w e =
+    record {
+      outputs = ap (λ (x : VbapPanner). x .«num_outputs») e;
+      kind = ap (λ (x : VbapPanner). x .kind) e;
+      mono = ap (λ (x : VbapPanner). x .mono) e;
+      «num_pairs» = ap (λ (x : VbapPanner). x .«num_pairs») e;
+      pairs = ap (λ (x : VbapPanner). map pairBits (x .pairs)) e;
+      «num_slots» = ap (λ (x : VbapPanner). x .«num_slots») e;
+      slots = ap (λ (x : VbapPanner). x .slots) e;
+      «num_real» = ap (λ (x : VbapPanner). x .«num_real») e;
+      «pt_out» = ap (λ (x : VbapPanner). x .«pt_out») e;
+      «pt_dir» = ap (λ (x : VbapPanner). map bits (x .«pt_dir»)) e;
+      «num_tris» = ap (λ (x : VbapPanner). x .«num_tris») e;
+      idx = ap (λ (x : VbapPanner). x .idx) e;
+      inv = ap (λ (x : VbapPanner). map bits (x .inv)) e;
+      «num_imag» = ap (λ (x : VbapPanner). x .«num_imag») e;
+      «num_nbrs» = ap (λ (x : VbapPanner). x .«num_nbrs») e;
+      «imag_nbrs» = ap (λ (x : VbapPanner). x .«imag_nbrs») e;
+    }
+
+bits-session : (s t : Session) → s ≡ t → SameBits s t
+bits-session s t e =
+    record {
+      panner = bits-panner (s .panner) (t .panner) (ap (λ (x : Session). x .panner) e);
       sources = ap (λ (x : Session). x .sources) e;
       counts = ap (λ (x : Session). x .counts) e;
-      standing = ap (λ (x : Session). map (toBits binary32) (x .standing)) e;
-      starts = ap (λ (x : Session). map (toBits binary32) (x .starts)) e;
+      standing = ap (λ (x : Session). map bits (x .standing)) e;
+      starts = ap (λ (x : Session). map bits (x .starts)) e;
     }
 
 pub demand3-bits : Demand3Bits
-demand3-bits positions lfe sources fit a one two f g =
-    let d = demand3 positions lfe sources a one two in
-    let s = afterAll (openOf positions lfe sources .session) one in
-    let t = afterAll (openOf positions lfe sources .session) two in (
-      λ b. d .0 (same-session s t (reached-held positions lfe sources fit a one f) (reached-held positions lfe sources fit a two g) b),
-      λ alike. same-bits s t (d .1 alike),
+demand3-bits g h c fit fit' one two f f' =
+    let d = demand3 g h c one two in
+    let s = afterAll (opened g) one in
+    let t = afterAll (opened h) two in
+    let panners : s .panner ≡ t .panner = reached-panner g one ∙ ap laid (c .layout) ∙ sym (reached-panner h two) in (
+      λ b i m. bits-alike (pastOf g one i) (pastOf h two i)
+          (d .0 (session-by-bits s t panners (reached-held g one fit f) (reached-held h two fit' f') b) i m),
+      λ alike. bits-session s t
+          (d .1 (λ i m. alike-by-bits (pastOf g one i) (pastOf h two i) (past-held g fit one f i) (past-held h fit' two f' i) (alike i m))),
     )

@@ -16,10 +16,11 @@ use Rattle.panner.specs.Shape.{Layout}
 use Rattle.layout.specs.Layout.{layoutOf}
 use Rattle.gains.specs.Gains.{finiteOr0, rowOf}
 use Rattle.history.specs.Calls.{place, takeBack, render}
-use Rattle.history.specs.History.{Direction, Past, beginning, stand, refusal, relisted, lastRow, rerowed, made, step, history, past}
+use Rattle.history.specs.History.{Direction, Past, beginning, depth, stand, refusal, relisted, lastRow, rerowed, made, step, history, past}
+use Rattle.sessions_equal.specs.Demand3.{Given, historyOf, pastOf}
 use Rattle.sessions_equal.specs.Instances.{−0, OneRow, ZerosApart}
-use Rattle.sessions_equal.proofs.Rows.{getD-pad}
-use Rattle.sessions_equal.proofs.Theorem.{demand3}
+use Rattle.sessions_equal.proofs.Rows.{getD-fill}
+use Rattle.sessions_equal.proofs.Theorem.{demand3, same-given}
 
 abbrev toward : Float → Float → Direction
 toward az el = record { azimuth = finiteOr0 az; elevation = finiteOr0 el }
@@ -68,9 +69,9 @@ module _ (l : Layout) (d e : Direction) where
 
 -- ---- the steps of the history
 
-step-place : (l : Layout) (ps : List Past) (i : ℕ) (az el : Float) → i < length ps → stand ps i < 16 → step l ps (place i az el) ≡ change i (pushed (toward az el)) ps
+step-place : (l : Layout) (ps : List Past) (i : ℕ) (az el : Float) → i < length ps → stand ps i < depth → step l ps (place i az el) ≡ change i (pushed (toward az el)) ps
 unfolding step made refusal
-step-place l ps i az el h g = rw (lt-leb (length ps) i h, lt-leb 16 (stand ps i) g)
+step-place l ps i az el h g = rw (lt-leb (length ps) i h, lt-leb depth (stand ps i) g)
 
 step-back : (l : Layout) (ps : List Past) (i : ℕ) → i < length ps → 0 < stand ps i → step l ps (takeBack i) ≡ change i (relisted butLast) ps
 unfolding step made refusal
@@ -89,7 +90,7 @@ stand-rerowed l (p ∷ ps) zero = refl
 stand-rerowed l (p ∷ ps) (suc i) = stand-rerowed l ps i
 
 stand-fresh : (l : Layout) (n i : ℕ) → stand (replicate n (beginning l)) i ≡ 0
-stand-fresh l n i = ap length (List·getD-map (λ p. p .standing) (replicate n (beginning l)) i (beginning l) ∙ ap (λ (p : Past). p .standing) (getD-pad [] n i (beginning l)))
+stand-fresh l n i = ap length (List·getD-map (λ p. p .standing) (replicate n (beginning l)) i (beginning l) ∙ ap (λ (p : Past). p .standing) (getD-fill [] n i (beginning l)))
 
 module _ (l : Layout) (ps : List Past) (i : ℕ) (h : i < length ps) (d : Direction) (L : ℕ) (samples outputs : List Float) where
   abbrev qs : List Past
@@ -118,19 +119,19 @@ same-past : (l : Layout) (d e : Direction) (ps : List Past) (i : ℕ)
 same-past l d e ps i h true = back-rowed l d e h ps i
 same-past l d e ps i h false = back l d e ps i
 
-module _ (positions : List Float) (lfe : List ℕ) (sources : ℕ) (i : ℕ) (h : i < sources) where
+module _ (g : Given) (i : ℕ) (h : i < g .sources) where
   abbrev l : Layout
-  l = layoutOf positions lfe
+  l = layoutOf (g .positions) (g .lfe)
 
   abbrev begun : List Past
-  begun = replicate sources (beginning l)
+  begun = replicate (g .sources) (beginning l)
 
   placed-first : (az el : Float) → step l begun (place i az el) ≡ change i (pushed (toward az el)) begun
   placed-first az el =
-      step-place l begun i az el (omega (arith, length-replicate sources (beginning l))) (omega (arith, stand-fresh l sources i))
+      step-place l begun i az el (omega (arith, length-replicate (g .sources) (beginning l))) (omega (arith, stand-fresh l (g .sources) i))
 
   three : (az el : Float) (L : ℕ) (samples outputs : List Float)
-      → history positions lfe sources (place i az el ∷ render L samples outputs ∷ takeBack i ∷ [])
+      → historyOf g (place i az el ∷ render L samples outputs ∷ takeBack i ∷ [])
       ≡ change i (relisted butLast)
       (cond (eqb (refusal l begun (render L samples outputs)) 0)
       (map (rerowed l) (change i (pushed (toward az el)) begun))
@@ -138,30 +139,30 @@ module _ (positions : List Float) (lfe : List ℕ) (sources : ℕ) (i : ℕ) (h 
   unfolding history
   three az el L samples outputs =
       rw (placed-first az el)
-      (render-back l begun i (omega (arith, length-replicate sources (beginning l))) (toward az el) L samples outputs
+      (render-back l begun i (omega (arith, length-replicate (g .sources) (beginning l))) (toward az el) L samples outputs
       (eqb (refusal l begun (render L samples outputs)) 0) refl)
 
-  placed-past : (az el : Float) → past positions lfe sources (place i az el ∷ []) i .standing ≡ toward az el ∷ []
+  placed-past : (az el : Float) → pastOf g (place i az el ∷ []) i .standing ≡ toward az el ∷ []
   unfolding past history
   placed-past az el =
-      let long = length-replicate sources (beginning l) in
+      let long = length-replicate (g .sources) (beginning l) in
       rw (
         placed-first az el,
         change-set i (pushed (toward az el)) begun (beginning l) (omega arith),
         getD-set-same begun i (pushed (toward az el) (getD begun i (beginning l))) (beginning l) (omega arith),
-        getD-pad [] sources i (beginning l),
+        getD-fill [] (g .sources) i (beginning l),
       )
 
 pub one-row : OneRow
 unfolding past
-one-row positions lfe sources a i h az el az' el' r L samples outputs =
-    let l = layoutOf positions lfe in
-    let b = eqb (refusal l (replicate sources (beginning l)) (render L samples outputs)) 0 in
+one-row g i h az el az' el' r L samples outputs =
+    let l = layoutOf (g .positions) (g .lfe) in
+    let b = eqb (refusal l (replicate (g .sources) (beginning l)) (render L samples outputs)) 0 in
     let rows = rowOf-finite l (l .outputs) az el ∙ r ∙ sym (rowOf-finite l (l .outputs) az' el') in
-    let same = three positions lfe sources i h az el L samples outputs
-    ∙ same-past l (toward az el) (toward az' el') (replicate sources (beginning l)) i rows b
-    ∙ sym (three positions lfe sources i h az' el' L samples outputs) in
-    demand3 positions lfe sources a _ _ .1 (λ j m. record { directions = rw same; gains = rw same })
+    let same = three g i h az el L samples outputs
+    ∙ same-past l (toward az el) (toward az' el') (replicate (g .sources) (beginning l)) i rows b
+    ∙ sym (three g i h az' el' L samples outputs) in
+    demand3 g g (same-given g) _ _ .1 (λ j m. record { directions = rw same; gains = rw same })
 
 -- one direction alone, by its two numbers
 angles-same : (d e : Direction) → d ∷ [] ≡ e ∷ [] → (d .azimuth ≡ e .azimuth) × (d .elevation ≡ e .elevation)
@@ -172,11 +173,11 @@ apart e = let z : true ≡ false = cc in let y : _≡_ {A = ℕ} 0 1 = cc in ome
 
 pub zeros-apart : ZerosApart
 unfolding finiteOr0 isFinite
-zeros-apart positions lfe sources a i h x = (
+zeros-apart g i h x = (
   λ e.
-      let q = demand3 positions lfe sources a _ _ .0 e i h in
-      apart (angles-same (toward +0 x) (toward −0 x) (sym (placed-past positions lfe sources i h +0 x) ∙ q .directions ∙ placed-past positions lfe sources i h −0 x) .0),
+      let q = demand3 g g (same-given g) _ _ .0 e i h in
+      apart (angles-same (toward +0 x) (toward −0 x) (sym (placed-past g i h +0 x) ∙ q .directions ∙ placed-past g i h −0 x) .0),
   λ e.
-      let q = demand3 positions lfe sources a _ _ .0 e i h in
-      apart (angles-same (toward x +0) (toward x −0) (sym (placed-past positions lfe sources i h x +0) ∙ q .directions ∙ placed-past positions lfe sources i h x −0) .1),
+      let q = demand3 g g (same-given g) _ _ .0 e i h in
+      apart (angles-same (toward x +0) (toward x −0) (sym (placed-past g i h x +0) ∙ q .directions ∙ placed-past g i h x −0) .1),
 )

@@ -1,8 +1,11 @@
 pub mod Rows
-pub mod Slots
-pub mod Encode
+pub mod Places
+pub mod Fields
+pub mod Laying
 pub mod Steps
 pub mod Theorem
 pub mod Instances
+pub mod PlacedBack
+pub mod Farther
 pub mod RowFits
 pub mod Bits

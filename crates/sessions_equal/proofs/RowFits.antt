@@ -11,12 +11,11 @@ use Rattle.lists.proofs.Each.{each-all, each-map, each-replicate, each-set}
 use Rattle.ieee.specs.Values.{+0, 1·0}
 use Rattle.root.specs.Root.{wholeRoot, roundRoot, sqrtOf}
 use Rattle.ieee.proofs.Laws.{units-fits}
-use Rattle.panner.specs.Shape.{Layout}
 use Rattle.panner.specs.Malformed.{usedSlots}
 use Rattle.gains.specs.Gains.{finiteOr0, rowOf}
 use Rattle.row_sound.proofs.Powers.{scaled-by}
 use Rattle.row_sound.proofs.Written.{Made, row-kept}
-use Rattle.sessions_equal.specs.Bits.{Fits32}
+use Rattle.sessions_equal.specs.Bits.{Fits32, GainsFit}
 
 -- ---- a root
 
@@ -50,8 +49,8 @@ made = record { one = one-fits; sum = add-fits binary32; quotient = div-fits bin
 times : (x : Float) (r : List Float) → Each Fits32 (map (λ g. mul binary32 g x) r)
 times x r = each-map Fits32 (λ g. mul binary32 g x) r (each-all (λ g. Fits32 (mul binary32 g x)) (λ g. mul-fits binary32 g x) r)
 
-pub rowOf-fits : (l : Layout) (n : ℕ) (az el : Float) → Each Fits32 (rowOf l n az el)
+pub gains-fit : GainsFit
 unfolding rowOf fits
-rowOf-fits l n az el =
+gains-fit l n az el =
     row-kept (Each Fits32) (λ _. Unit) Fits32 made (λ row i v u k h. each-set Fits32 row i v h (λ _. k)) (λ row h. scaled-by (Each Fits32) row h (λ x _. times x row)) n (finiteOr0 az) (finiteOr0 el) (l .shape)
     (each-all (λ _. Unit) (λ _. tt) (usedSlots (l .shape))) tt (each-replicate Fits32 n +0 tt)

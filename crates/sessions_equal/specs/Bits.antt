@@ -1,19 +1,25 @@
 -- Document 01, "Session" ("Two sessions are equal when every field has the same bits") and "The buyer's note on promises" ("a layout from open gives no NaN"): for positions and angles of 32 bits
--- no float of a session that began as open returned it is a NaN, so its value is its bits, and equal fields are fields of equal bits. Statements, proved by `never-nan` and `demand3-bits` (proofs/Bits.antt). Assumes nothing.
+-- no float of a session that began as open returned it is a NaN, so its value is its bits, and equal fields are fields of equal bits; the same of the floats that a history holds.
+-- Statements, proved by `never-nan`, `gains-fit` and `demand3-bits` (proofs/Bits.antt, proofs/RowFits.antt). Assumes nothing.
 use Prim.Native.Nat.{ℕ, _<_}
 use mathlib.Core.Path.{_≡_}
 use mathlib.Core.Logic.{_↔_}
-use mathlib.Core.List.{List, map}
+use mathlib.Core.List.{List, [], _∷_, map}
 use lib.Dec.{T}
 use lib.Ieee.{Float, binary32, fits, toBits}
 use Rattle.lists.specs.Lists.{Each}
+use Rattle.planar.specs.declared.Law.{Law}
+use Rattle.planar.specs.declared.Law.the-variants.{Inverse, Crossfade}
+use Rattle.planar.specs.declared.PlanarPair.{PlanarPair}
+use Rattle.panner.specs.declared.VbapPanner.{VbapPanner}
+use Rattle.panner.specs.Shape.{Layout}
+use Rattle.gains.specs.Gains.{rowOf}
 use Rattle.sound.specs.Sound.{Number, NoNan}
 use Rattle.history.specs.Calls.{Call, place, takeBack, settle, render}
-use Rattle.history.specs.History.{past}
+use Rattle.history.specs.History.{Direction, Past}
 use Rattle.session.specs.declared.Session.{Session}
-use Rattle.session_open.specs.Open.{openOf}
 use Rattle.session.specs.Session.{afterAll}
-use Rattle.sessions_equal.specs.Demand3.{Alike}
+use Rattle.sessions_equal.specs.Demand3.{Given, opened, pastOf, Comparable}
 
 -- ---- arguments of 32 bits
 
@@ -34,25 +40,61 @@ pub record Numbers (s : Session) : Type 0 where
   pub starts : Each Number (s .starts)
 
 abbrev pub NeverNan : Type 0
-NeverNan =
-    (positions : List Float) (lfe : List ℕ) (sources : ℕ) → Each Fits32 positions
-    → openOf positions lfe sources .number ≡ 0
-    → (calls : List Call) → Each CallFits calls → Numbers (afterAll (openOf positions lfe sources .session) calls)
+NeverNan = (g : Given) → Each Fits32 (g .positions) → (calls : List Call) → Each CallFits calls → Numbers (afterAll (opened g) calls)
 
--- ---- demand 3 by the bits
+-- a gain is a value of 32 bits, whatever the layout and the angles
+abbrev pub GainsFit : Type 0
+GainsFit = (l : Layout) (n : ℕ) (az el : Float) → Each Fits32 (rowOf l n az el)
 
--- the panner is open's, which no call changes
+-- ---- by the bits: each float by its 32 bits, each other number as it is
+
+abbrev pub bits : Float → ℕ
+bits x = toBits binary32 x
+
+-- the law of a pair: four numbers, or none for the crossfade
+unfoldable pub lawBits : Law → List ℕ
+lawBits (Inverse i j k l) = bits i ∷ bits j ∷ bits k ∷ bits l ∷ []
+lawBits Crossfade = []
+
+unfoldable pub pairBits : PlanarPair → List ℕ
+pairBits p = bits (p .start) ∷ bits (p .gap) ∷ p .a ∷ p .b ∷ lawBits (p .law)
+
+unfoldable pub directionBits : Direction → List ℕ
+directionBits d = bits (d .azimuth) ∷ bits (d .elevation) ∷ []
+
+pub record SamePanner (v w : VbapPanner) : Type 0 where
+  pub outputs : v .«num_outputs» ≡ w .«num_outputs»
+  pub kind : v .kind ≡ w .kind
+  pub mono : v .mono ≡ w .mono
+  pub «num_pairs» : v .«num_pairs» ≡ w .«num_pairs»
+  pub pairs : map pairBits (v .pairs) ≡ map pairBits (w .pairs)
+  pub «num_slots» : v .«num_slots» ≡ w .«num_slots»
+  pub slots : v .slots ≡ w .slots
+  pub «num_real» : v .«num_real» ≡ w .«num_real»
+  pub «pt_out» : v .«pt_out» ≡ w .«pt_out»
+  pub «pt_dir» : map bits (v .«pt_dir») ≡ map bits (w .«pt_dir»)
+  pub «num_tris» : v .«num_tris» ≡ w .«num_tris»
+  pub idx : v .idx ≡ w .idx
+  pub inv : map bits (v .inv) ≡ map bits (w .inv)
+  pub «num_imag» : v .«num_imag» ≡ w .«num_imag»
+  pub «num_nbrs» : v .«num_nbrs» ≡ w .«num_nbrs»
+  pub «imag_nbrs» : v .«imag_nbrs» ≡ w .«imag_nbrs»
+
 pub record SameBits (s t : Session) : Type 0 where
-  pub panner : s .panner ≡ t .panner
+  pub panner : SamePanner (s .panner) (t .panner)
   pub sources : s .sources ≡ t .sources
   pub counts : s .counts ≡ t .counts
-  pub standing : map (toBits binary32) (s .standing) ≡ map (toBits binary32) (t .standing)
-  pub starts : map (toBits binary32) (s .starts) ≡ map (toBits binary32) (t .starts)
+  pub standing : map bits (s .standing) ≡ map bits (t .standing)
+  pub starts : map bits (s .starts) ≡ map bits (t .starts)
+
+pub record AlikeBits (p q : Past) : Type 0 where
+  pub directions : map directionBits (p .standing) ≡ map directionBits (q .standing)
+  pub gains : map bits (p .row) ≡ map bits (q .row)
+
+-- ---- demand 3 by the bits, on both sides
 
 abbrev pub Demand3Bits : Type 0
 Demand3Bits =
-    (positions : List Float) (lfe : List ℕ) (sources : ℕ) → Each Fits32 positions
-    → openOf positions lfe sources .number ≡ 0
+    (g h : Given) → Comparable g h → Each Fits32 (g .positions) → Each Fits32 (h .positions)
     → (one two : List Call) → Each CallFits one → Each CallFits two
-    → SameBits (afterAll (openOf positions lfe sources .session) one) (afterAll (openOf positions lfe sources .session) two)
-    ↔ ((i : ℕ) → i < sources → Alike (past positions lfe sources one i) (past positions lfe sources two i))
+    → SameBits (afterAll (opened g) one) (afterAll (opened h) two) ↔ ((i : ℕ) → i < g .sources → AlikeBits (pastOf g one i) (pastOf h two i))

@@ -1,4 +1,5 @@
 pub mod Demand3
+pub mod Laid
 pub mod Numbers
 pub mod Instances
 pub mod Bits
