@@ -43,13 +43,13 @@ use Rattle.proving_ground.specs.Table.{F, Table}
 
 -- ---- F as an active speaker in slot i: level, and straight ahead
 
-abbrev at : ℕ → Speaker
+abbrev pub at : ℕ → Speaker
 at i = record { slot = i; dir = F }
 
 abbrev spot : ℕ → Spot
 spot i = record { angle = +0; number = i }
 
-F-level : (i : ℕ) → level (at i) ≡ true
+pub F-level : (i : ℕ) → level (at i) ≡ true
 unfolding level levelAt abs sinOf sineBy mod4 reduced quarter nearestWhole quotient remainder S C sineCoefficients cosineCoefficients coefficients factorial sumOf round add sub neg mul div rem ofInt ofBits le lt eq
 F-level i = refl
 
@@ -65,7 +65,7 @@ pair = record { start = +0; gap = tau32; a = 1; b = 0; law = Crossfade }
 abbrev shape-of-two : Shape
 shape-of-two = planar (pair ∷ []) (0 ∷ 1 ∷ [])
 
-two-active : active (F ++ F) [] ≡ at 0 ∷ at 1 ∷ []
+pub two-active : active (F ++ F) [] ≡ at 0 ∷ at 1 ∷ []
 unfolding active collect range from outputsOf speakerAt any unitOf lengthOf dotOf dotIn overOf isFinite part sqrtOf round add mul div neg le lt eq ofBits
 two-active = refl
 

@@ -25,7 +25,7 @@ use Rattle.history.specs.History.{Direction, Past, beginning, depth, refusal, o
 use Rattle.session.specs.declared.Session.{Session}
 use Rattle.session.specs.Session.{afterAll}
 use Rattle.sessions_equal.specs.Demand3.{Alike, Given, opened, historyOf, pastOf, Comparable}
-use Rattle.sessions_equal.specs.Laid.{numbersIn, placesOf, startOf, laidAt}
+use Rattle.sessions_equal.specs.Laid.{numbersOf, numbersIn, placesOf, startOf, laidAt}
 use Rattle.sessions_equal.specs.Bits.{Fits32, CallFits, NeverNan, bits, pairBits, directionBits, SamePanner, SameBits, AlikeBits, Demand3Bits}
 use Rattle.sessions_equal.proofs.Fields.{same-session}
 use Rattle.sessions_equal.proofs.RowFits.{gains-fit}
@@ -137,8 +137,8 @@ laid-held deep v ps h =
   where
     numbers-held : (ds : List Direction) → Each HeldDirection ds → Each Finite32 (numbersIn ds)
     numbers-held ds k =
-        each-flatMap Finite32 (λ d. d .azimuth ∷ d .elevation ∷ []) ds
-        (each-imply HeldDirection (λ d. Each Finite32 (d .azimuth ∷ d .elevation ∷ [])) (λ d j. (j .azimuth, (j .elevation, tt))) ds k)
+        each-flatMap Finite32 numbersOf ds
+        (each-imply HeldDirection (λ d. Each Finite32 (numbersOf d)) (λ d j. (j .azimuth, (j .elevation, tt))) ds k)
 
 module _ (g : Given) (calls : List Call) where
   reached-held : Each Fits32 (g .positions) → Each CallFits calls → HeldSession (afterAll (opened g) calls)

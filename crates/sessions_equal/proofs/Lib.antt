@@ -6,6 +6,5 @@ pub mod Steps
 pub mod Theorem
 pub mod Instances
 pub mod PlacedBack
-pub mod Farther
 pub mod RowFits
 pub mod Bits

@@ -14,7 +14,7 @@ use Rattle.lists.proofs.Filled.{filled-none, length-filled, set-filled-at, take
 use Rattle.ieee.specs.Values.{+0}
 use Rattle.mix.specs.Turns.{rowPlaces}
 use Rattle.history.specs.History.{Direction, Past}
-use Rattle.sessions_equal.specs.Laid.{numbersIn, placesOf, startOf}
+use Rattle.sessions_equal.specs.Laid.{numbersOf, numbersIn, placesOf, startOf}
 use Rattle.sessions_equal.proofs.Rows.{Wide, sets-all, sets-back, getD-filled-any, filled-replicate, rowsIn-getD}
 
 -- ---- the last direction removed
@@ -35,19 +35,16 @@ butLast-last {A} (x ∷ (y ∷ l)) d h =
 
 -- ---- numbers of directions, two each
 
-abbrev two : Direction → List Float
-two d = d .azimuth ∷ d .elevation ∷ []
-
-two-wide : (ds : List Direction) → Each (Wide 2 two) ds
-two-wide ds = each-all (Wide 2 two) (λ d. refl) ds
+two-wide : (ds : List Direction) → Each (Wide 2 numbersOf) ds
+two-wide ds = each-all (Wide 2 numbersOf) (λ d. refl) ds
 
 pub numbers-length : (ds : List Direction) → length (numbersIn ds) ≡ length ds * 2
 unfolding numbersIn
-numbers-length ds = length-rows 2 two ds (two-wide ds)
+numbers-length ds = length-rows 2 numbersOf ds (two-wide ds)
 
 numbers-snoc : (ds : List Direction) (d : Direction) → numbersIn (ds ++ d ∷ []) ≡ numbersIn ds ++ d .azimuth ∷ d .elevation ∷ []
 unfolding numbersIn
-numbers-snoc ds d = flatMap-snoc two ds d
+numbers-snoc ds d = flatMap-snoc numbersOf ds d
 
 module _ (deep : ℕ) where
   abbrev pub places : List Direction → List Float
@@ -90,7 +87,7 @@ module _ (deep : ℕ) where
       → (getD (places ds) (k * 2) nan ≡ getD ds k z .azimuth) × (getD (places ds) (k * 2 + 1) nan ≡ getD ds k z .elevation)
   unfolding numbersIn
   places-at ds z k h =
-      (rw (add-zero (k * 2)) at (rowsIn-getD 2 two (deep * 2) +0 ds z k 0 nan (two-wide ds) h (omega arith)), rowsIn-getD 2 two (deep * 2) +0 ds z k 1 nan (two-wide ds) h (omega arith))
+      (rw (add-zero (k * 2)) at (rowsIn-getD 2 numbersOf (deep * 2) +0 ds z k 0 nan (two-wide ds) h (omega arith)), rowsIn-getD 2 numbersOf (deep * 2) +0 ds z k 1 nan (two-wide ds) h (omega arith))
 
   -- as many directions in equal places are equal
   pub places-same : (ds es : List Direction) → length ds ≡ length es → places ds ≡ places es → ds ≡ es

@@ -16,9 +16,12 @@ use Rattle.session.specs.declared.Session.{Session}
 use Rattle.session.specs.Session.{afterAll}
 use Rattle.sessions_equal.specs.Demand3.{Given, opened, historyOf}
 
--- azimuth and elevation of each direction, in order
+-- a direction's two numbers, and those of a list of directions in order
+abbrev pub numbersOf : Direction → List Float
+numbersOf d = d .azimuth ∷ d .elevation ∷ []
+
 unfoldable pub numbersIn : List Direction → List Float
-numbersIn ds = flatMap (λ d. d .azimuth ∷ d .elevation ∷ []) ds
+numbersIn ds = flatMap numbersOf ds
 
 -- the places of one source in a record of a depth: two numbers for each direction that may stand, and a gain for each output that there may be; +0 in those that are left
 unfoldable pub placesOf : ℕ → Past → List Float

@@ -1,24 +1,24 @@
 -- F as (0, 0, −1) and as (0, 0, −2): `unit` makes one direction of both, so their active speakers are the same, and with them the layout. Assumes nothing.
 use Prim.Native.Nat.{ℕ, _%_, _≤_}
 use mathlib.Core.Path.{_≡_, refl, sym, ap, ap₂, _∙_}
-use mathlib.Core.Bool.{true, false}
+use mathlib.Core.Bool.{false}
 use mathlib.Core.List.{List, [], _∷_, _++_}
 use native.Mathlib.Omega.{arith}
 use borrow.Author.Tests.{le-ltb}
 use lib.ListN.{length}
-use lib.Ieee.{Float, round, neg, add, sub, mul, div, rem, le, lt, eq, ofInt, ofBits}
+use lib.Ieee.{Float, round, neg, add, mul, div, le, lt, eq, ofBits}
 use Rattle.lists.specs.Lists.{from, range, collect, any, every, part}
-use Rattle.ieee.specs.Values.{abs, isFinite}
+use Rattle.ieee.specs.Values.{isFinite}
 use Rattle.root.specs.Root.{sqrtOf}
-use Rattle.trig.specs.Series.{coefficients, sumOf, factorial}
-use Rattle.trig.specs.Sine.{sineCoefficients, cosineCoefficients, S, C, remainder, quotient, nearestWhole, quarter, reduced, mod4, sineBy, sinOf}
 use Rattle.vector.specs.Vector.{dotIn, dotOf, overOf, lengthOf, unitOf}
 use Rattle.vector.specs.Speakers.{Speaker}
-use Rattle.layout.specs.Layout.{outputsOf, speakerAt, active, levelAt, level, shapeOf, layoutOf, tooManyTriplets}
+use Rattle.layout.specs.Layout.{outputsOf, speakerAt, active, shapeOf, layoutOf, tooManyTriplets}
 use Rattle.mix.specs.Turns.{mostSources}
 use Rattle.session_open.specs.Open.{openRefusal, openOf}
 use Rattle.sessions_equal.specs.Demand3.{Given, Comparable}
-use Rattle.sessions_equal.specs.Instances.{F, farF, OneLayout, Farther}
+use Rattle.proving_ground.specs.Table.{F}
+use Rattle.proving_ground.specs.Farther.{farF, OneLayout, Farther}
+use Rattle.proving_ground.proofs.Shown.{at, F-level, two-active}
 
 -- ---- two lists of as many positions, with the same active speakers
 
@@ -37,36 +37,25 @@ accepts positions n e m t a b = rw (e, le-ltb 40 (outputsOf positions) m, le-ltb
 
 -- ---- F alone, and F, F
 
-abbrev ahead : ℕ → Speaker
-ahead i = record { slot = i; dir = F }
-
-level-ahead : (i : ℕ) → level (ahead i) ≡ true
-unfolding level levelAt abs sinOf sineBy mod4 reduced quarter nearestWhole quotient remainder S C sineCoefficients cosineCoefficients coefficients factorial sumOf round add sub neg mul div rem ofInt ofBits le lt eq
-level-ahead i = refl
-
-one-near : active F [] ≡ ahead 0 ∷ []
+one-near : active F [] ≡ at 0 ∷ []
 unfolding active collect range from outputsOf speakerAt any unitOf lengthOf dotOf dotIn overOf isFinite part sqrtOf round add mul div neg le lt eq ofBits
 one-near = refl
 
-one-far : active farF [] ≡ ahead 0 ∷ []
+one-far : active farF [] ≡ at 0 ∷ []
 unfolding active collect range from outputsOf speakerAt any unitOf lengthOf dotOf dotIn overOf isFinite part sqrtOf round add mul div neg le lt eq ofBits
 one-far = refl
 
-two-near : active (F ++ F) [] ≡ ahead 0 ∷ ahead 1 ∷ []
-unfolding active collect range from outputsOf speakerAt any unitOf lengthOf dotOf dotIn overOf isFinite part sqrtOf round add mul div neg le lt eq ofBits
-two-near = refl
-
-two-far : active (farF ++ farF) [] ≡ ahead 0 ∷ ahead 1 ∷ []
+two-far : active (farF ++ farF) [] ≡ at 0 ∷ at 1 ∷ []
 unfolding active collect range from outputsOf speakerAt any unitOf lengthOf dotOf dotIn overOf isFinite part sqrtOf round add mul div neg le lt eq ofBits
 two-far = refl
 
-few-alone : tooManyTriplets (ahead 0 ∷ []) ≡ false
+few-alone : tooManyTriplets (at 0 ∷ []) ≡ false
 unfolding tooManyTriplets
 few-alone = refl
 
-few-together : tooManyTriplets (ahead 0 ∷ ahead 1 ∷ []) ≡ false
+few-together : tooManyTriplets (at 0 ∷ at 1 ∷ []) ≡ false
 unfolding tooManyTriplets every
-few-together = rw (level-ahead 0, level-ahead 1)
+few-together = rw (F-level 0, F-level 1)
 
 pub farther : Farther
 unfolding outputsOf
@@ -77,9 +66,9 @@ farther = (
   },
   record {
     accepted = λ n a b. (
-      accepts (F ++ F) n refl (omega arith) (ap tooManyTriplets two-near ∙ few-together) a b,
+      accepts (F ++ F) n refl (omega arith) (ap tooManyTriplets two-active ∙ few-together) a b,
       accepts (farF ++ farF) n refl (omega arith) (ap tooManyTriplets two-far ∙ few-together) a b,
     );
-    comparable = comparable (F ++ F) (farF ++ farF) refl (two-near ∙ sym two-far);
+    comparable = comparable (F ++ F) (farF ++ farF) refl (two-active ∙ sym two-far);
   },
 )
