@@ -5,9 +5,10 @@ use lib.Ieee.{Float, nan, inf, fin, binary64, add, sub, neg, mul, div, lt, le, e
 use Rattle.ieee.specs.Values.{+0, abs, signBit}
 use Rattle.trig.specs.Pi.{PI64, halfPi}
 use Rattle.arctangent.specs.Arctangent.{halvedOf, eightfoldOf, atanOf, ratioOf, firstQuadrantOf, withSignOfX, withSignOfY, atan2Of}
+use Rattle.arctangent.specs.Meaning.{AtanOfNan, Atan2OfNanY, Atan2OfNanX, Atan2OfInfinities}
 
 -- ---- arctangent
-pub atanOf-nan : atanOf nan ≡ nan
+pub atanOf-nan : AtanOfNan
 unfolding atanOf halvedOf eightfoldOf div mul
 atanOf-nan = refl
 
@@ -48,7 +49,7 @@ ratio-by-nan y = go (eq y +0) (by y)
     go true e = e
     go false e = e
 
-pub atan2Of-nan-y : (x : Float) → atan2Of nan x ≡ nan
+pub atan2Of-nan-y : Atan2OfNanY
 unfolding firstQuadrantOf abs le lt eq
 atan2Of-nan-y x = by-first nan x (minus-nan (ratio-by-nan (abs x)))
 
@@ -58,12 +59,12 @@ not-above nan = refl
 not-above (inf s) = refl
 not-above (fin s m e) = refl
 
-pub atan2Of-nan-x : (y : Float) → atan2Of y nan ≡ nan
+pub atan2Of-nan-x : Atan2OfNanX
 unfolding firstQuadrantOf abs
 atan2Of-nan-x y =
     by-first y nan
     (ap (λ (b : Bool). cond b (atanOf (ratioOf (abs y) nan)) (sub binary64 halfPi (atanOf (ratioOf nan (abs y))))) (not-above (abs y)) ∙ minus-nan (ratio-of-nan (abs y)))
 
-pub atan2Of-infinities : (s t : Bool) → atan2Of (inf s) (inf t) ≡ nan
+pub atan2Of-infinities : Atan2OfInfinities
 unfolding firstQuadrantOf ratioOf abs le eq div
 atan2Of-infinities s t = by-first (inf s) (inf t) atanOf-nan

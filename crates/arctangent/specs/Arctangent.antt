@@ -1,4 +1,4 @@
--- Document 01, "Number work", the stand-ins: arctangent and atan2, in 64 bits. Assumes nothing.
+-- Document 01, "Number work", the stand-ins: arctangent and atan2, in 64 bits. Where the angle is a NaN (Meaning.antt says where), its sign and payload are the program's: every choice is a NaN. Assumes nothing.
 use Prim.Native.Nat.{_+_, _*_}
 use mathlib.Core.Bool.{false, cond, _&&_}
 use mathlib.Core.List.{List}
@@ -9,7 +9,7 @@ use Rattle.root.specs.Root.{sqrtOf}
 use Rattle.trig.specs.Pi.{PI64, halfPi}
 use Rattle.trig.specs.Series.{coefficients, sumOf}
 
--- 8: 4020_0000_0000_0000
+-- 8: 4020_0000_0000_0000. Origin: document 01, 8·(q times the sum), after three halvings.
 abbrev pub 8·0 : Float
 8·0 = fin false 1 (pos 3)
 

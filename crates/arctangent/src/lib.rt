@@ -1,4 +1,4 @@
-// Arctangent and atan2 by the steps of document 01, "Number work".
+// Arctangent and atan2 by the steps of document 01, "Number work". Where the angle is a NaN, its sign and payload are the program's: every choice is a NaN, and a quiet one.
 ghost use mathlib.Core.Path.{_≡_};
 ghost use Rattle.trig.specs.Series.{sumOf};
 ghost use Rattle.arctangent.specs.Arctangent.{arctangentCoefficients, halvedOf, atanOf, ratioOf, firstQuadrantOf, withSignOfX, withSignOfY, atan2Of};

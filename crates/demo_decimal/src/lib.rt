@@ -1,4 +1,5 @@
 // A float in decimal text: the nearest number with so many digits after the point, a tie to the even one.
+// Origin of 6, the most digits after the point: what the printed rehearsal shows of an angle and of a gain, steps of a millionth. A number below 2^24 is then below 2^44 steps.
 ghost use mathlib.Core.Path.{_≡_};
 ghost use Prim.Native.Nat.{_^_, _≤_, _<_};
 ghost use lib.Ieee.Nearest.{closest};

@@ -1,7 +1,7 @@
 -- Document 01, "The ramp and the mixed gain follow S"; source lines 597 to 600: one sample of a ramp, at the gain of its count. Assumes nothing.
 use lib.Ieee.{Float, binary32, add, mul, ofBits}
 
--- 8. Origin: eight samples are taken at once.
+-- 8: 4100_0000. Origin: eight samples, two vectors of four 32-bit floats, are taken at once.
 abbrev pub 8·0 : Float
 8·0 = ofBits binary32 0x4100_0000
 

@@ -47,6 +47,7 @@ sharedBy nbrs g row =
     let w = div binary32 g (sqrtOf binary32 (count32 (length nbrs))) in
     cond (lt +0 g && not (isEmpty nbrs)) (addEach w row nbrs) row
 
+-- the neighbours of imaginary point k stand in part k of 40. Origin of 40: document 01, "Returned numbers", neighbours of one.
 unfoldable pub sharedAt : List ℕ → List ℕ → List Float → List Float → ℕ → List Float
 sharedAt counts nbrs imag row k = sharedBy (take (getD counts k 0) (part 40 nbrs k)) (getD imag k nan) row
 

@@ -1,4 +1,5 @@
-// The gains of a triplet in the places of a row: real points in their slots, imaginary ones shared among their neighbours.
+// The gains of a triplet in the places of a row: real points in their slots, imaginary ones shared among their neighbours. Source lines 550 to 572.
+// Origin of the numbers: document 01, "Returned numbers" (malformed): 80 triplets with 3 point numbers each, 240; 14 imaginary points (MAX_IMAGINARY, vbap.rs line 60) with 40 neighbours each, 560.
 ghost use mathlib.Core.Path.{_≡_};
 ghost use mathlib.Core.Bool.{true};
 ghost use Prim.Native.Nat.{_≤_, _<_, min};
@@ -32,6 +33,7 @@ fn to_imag(imag: [f32; 14], n: usize, p: usize, g: f32) -> [f32; 14]
     sums
 }
 
+// Origin of 13: MAX_IMAGINARY - 1, vbap.rs line 560.
 fn at_most_13(k: usize) -> usize
     ensures { λ r. ⌜ r ≡ min k 13 ⌝ }
 {

@@ -1,4 +1,5 @@
--- Document 01, "A row", and 11 of "Returned numbers"; source lines 441 to 583: gains, num_outputs. Assumes nothing.
+-- Document 01, "A row", and 11 of "Returned numbers"; source lines 441 to 583: gains, num_outputs.
+-- Free to the program: the sign and payload of a NaN in a row of a layout made by hand. Every choice is a NaN, the only one that the logic has; a layout from `new` gives none (crate row_sound). Assumes nothing.
 use Prim.Native.Nat.{ℕ, min}
 use mathlib.Core.Bool.{cond}
 use mathlib.Core.List.{List, _++_}

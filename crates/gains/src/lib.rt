@@ -1,4 +1,6 @@
-// A row by the record: gains of a direction, for a panner of any kind.
+// A row by the record: gains of a direction, for a panner of any kind. Document 01, "A row"; source lines 441 to 583.
+// Origin of the arrays' lengths: document 01, "Returned numbers" (malformed): 40 pairs, slots and real points, these with 3 numbers each, 120; 80 triplets with 3 point numbers each, 240, and an inverse of 9 numbers each, 720;
+// 14 imaginary points with 40 neighbours each, 560. Origin of 11: the same table.
 ghost use mathlib.Core.Path.{_≡_};
 ghost use mathlib.Core.Bool.{true, _||_};
 ghost use mathlib.Core.List.{[], _∷_, flatMap};
@@ -114,7 +116,7 @@ fn hull(
 
 // `VbapPanner::gains`: 11 for a malformed record, nothing touched; else 0, and the row in the first of the places, as many as there are outputs.
 // Each field that is an array is copied where its kind is known, and handed on: the record itself is never copied.
-// Free to the program: the sign and payload of a NaN in a row of a record made by hand; every choice is a NaN. A record from `new` gives none (crate row_sound).
+// Free to the program: the sign and payload of a NaN in a row of a record made by hand. Every choice is a NaN, and a quiet one, since every gain is computed. A record from `new` gives none (crate row_sound).
 pub fn gains(panner: VbapPanner, az: f32, el: f32, out: &mut [f32]) -> u32
     ensures { λ r. ⌜ r ≡ gainsNumber panner ⌝ }
     ensures { λ _. ⌜ now (out .exit) ≡ gainsBuffer panner az el (now (out .entry)) ⌝ }

@@ -7,7 +7,7 @@ use lib.ListN.{length}
 use lib.Ieee.{Float, inf, lt}
 use Rattle.lists.specs.Lists.{every, position}
 
--- above −∞, and no number of l above it; never a NaN
+-- above −∞, and no number of l above it; so it is no NaN (`Chosen` of Meaning.antt). Origin of −∞: vbap.rs lines 518 and 535, f32::NEG_INFINITY, where nothing is chosen yet.
 unfoldable pub isGreatest : List Float → Float → Bool
 isGreatest l x = lt (inf true) x && every (λ y. not (lt x y)) l
 

@@ -1,4 +1,4 @@
--- What the parts of the search promise one another. Assumes nothing.
+-- What the parts of the search promise one another. Origin of 8: two vectors of four 32-bit floats, which the compiler compares at once; the search's result does not depend on it. Assumes nothing.
 use Prim.Native.Nat.{ℕ, _≤_, _<_}
 use mathlib.Core.Path.{_≡_}
 use mathlib.Core.Bool.{Bool, true, false, _||_, cond}

@@ -20,7 +20,7 @@ use Rattle.root.specs.Root.{sqrtOf}
 use Rattle.ieee.specs.Order.{minOf, squareOf}
 use Rattle.ieee.proofs.Order.{min-first-nan, min-second-nan, min-second, min-first}
 use Rattle.vector.specs.Vector.{Vector, dotIn}
-use Rattle.planar_row.specs.PlanarRow.{leastPower}
+use Rattle.hull_row.specs.HullRow.{leastRowPower}
 use Rattle.greatest.specs.Greatest.{firstGreatest}
 use Rattle.hull_row.specs.HullRow.{scaled}
 use Rattle.hull_row.specs.Steps.{inverseAt, gainAt, gainsAt, leastAt, productsOf, nearestIn, powerOf, timesOf}
@@ -173,10 +173,10 @@ module _ (s : Vector) (slots : List ℕ) (dirs : List Float) (n i : ℕ) (row : 
 -- ---- to power 1
 
 module _ (row : List Float) where
-  pub scaled-yes : (x : Float) → x ≡ div binary32 1·0 (sqrtOf binary32 (powerOf row)) → lt leastPower (powerOf row) ≡ true → timesOf x row ≡ scaled row
+  pub scaled-yes : (x : Float) → x ≡ div binary32 1·0 (sqrtOf binary32 (powerOf row)) → lt leastRowPower (powerOf row) ≡ true → timesOf x row ≡ scaled row
   unfolding scaled timesOf powerOf
   scaled-yes x e t = rw (t, e) refl
 
-  pub scaled-no : lt leastPower (powerOf row) ≡ false → row ≡ scaled row
+  pub scaled-no : lt leastRowPower (powerOf row) ≡ false → row ≡ scaled row
   unfolding scaled powerOf
   scaled-no t = rw t refl

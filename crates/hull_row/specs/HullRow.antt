@@ -1,12 +1,13 @@
 -- Document 01, "A row" (Hull); source lines 513 to 581 (the hull branch of gains). P's gains are the direction times the inverse of the speakers' matrix.
--- A row is a gain for each of n places, n = min(outputs, buffer length). `set` beyond the end of a list changes nothing: the source's `if slot < n`. Assumes nothing.
+-- A row is a gain for each of n places, n = min(outputs, buffer length). `set` beyond the end of a list changes nothing: the source's `if slot < n`.
+-- Where a gain is a NaN, which only a layout made by hand has (crate row_sound), its sign and payload are the program's: every choice is a NaN, the only one that the logic has. Assumes nothing.
 use Prim.Native.Nat.{ℕ, _-_, min}
 use mathlib.Core.Bool.{_&&_, not, cond}
 use mathlib.Core.List.{List, [], _∷_, map, foldl}
 use mathlib.Core.Option.{Option, none, some}
 use lib.Dec.{ltb}
 use lib.ListN.{length, getD, set, replicate}
-use lib.Ieee.{Float, nan, binary32, add, mul, div, lt}
+use lib.Ieee.{Float, nan, binary32, add, mul, div, lt, ofBits}
 use Rattle.lists.specs.Lists.{range, isEmpty, part}
 use Rattle.ieee.specs.Values.{+0, 1·0}
 use Rattle.ieee.specs.Order.{maxOf, minOf, squareOf}
@@ -14,7 +15,7 @@ use Rattle.root.specs.Root.{sqrtOf}
 use Rattle.vector.specs.Vector.{Vector, Points, dotIn, dirVecOf}
 use Rattle.hull.specs.Triplets.{Triplet}
 use Rattle.panner.specs.Shape.{HullShape}
-use Rattle.planar_row.specs.PlanarRow.{addAt, count32, leastPower}
+use Rattle.planar_row.specs.PlanarRow.{addAt, count32}
 use Rattle.greatest.specs.Greatest.{firstGreatest}
 use Rattle.filling.specs.Filling.{maxImaginary}
 
@@ -37,11 +38,11 @@ aimed s t =
 abbrev pub leastGain : Vector → Triplet → Float
 leastGain s t = aimed s t .least
 
--- none where no smallest gain is above −∞
+-- none where no smallest gain is above −∞. Origin of −∞: vbap.rs line 518.
 unfoldable pub bestOf : Vector → List Triplet → Option Aimed
 bestOf s tris = getD (map (λ t. some (aimed s t)) tris) (firstGreatest (length tris) (map (leastGain s) tris)) none
 
--- no triplet: the nearest speaker, the earlier of equals, the first where no product is above −∞
+-- no triplet: the nearest speaker, the earlier of equals, the first where no product is above −∞. Origin of −∞: vbap.rs line 535.
 unfoldable pub nearestPoint : Vector → Points → ℕ
 nearestPoint s dirs = firstGreatest 0 (map (λ p. dotIn binary32 p s) dirs)
 
@@ -75,12 +76,16 @@ shared h imag row k =
     let w = div binary32 g (sqrtOf binary32 (count32 (length nbrs))) in
     cond (lt +0 g && not (isEmpty nbrs)) (foldl (λ r o. addAt r o w) row nbrs) row
 
+-- LEAST_ROW_POWER, 1e-12. Origin: vbap.rs line 574; the power of a row has to be above it: else the row is left as it is, and nothing is divided by its root.
+abbrev pub leastRowPower : Float
+leastRowPower = ofBits binary32 0x2b8c_bccc
+
 -- to power 1, over the filled slots only
 unfoldable pub scaled : List Float → List Float
 scaled row =
     let pow = foldl (λ p g. add binary32 p (squareOf g)) +0 row in
     let inv = div binary32 1·0 (sqrtOf binary32 pow) in
-    cond (lt leastPower pow) (map (λ g. mul binary32 g inv) row) row
+    cond (lt leastRowPower pow) (map (λ g. mul binary32 g inv) row) row
 
 unfoldable pub tripletRow : ℕ → HullShape → Triplet → List Float → List Float
 tripletRow n h t g =

@@ -11,7 +11,7 @@ use Rattle.greatest.specs.Greatest.{firstGreatest}
 
 -- ---- the gains of a triplet
 
--- the inverse of triplet t: entry e at e * 80 + t
+-- the inverse of triplet t: entry e at e * 80 + t. Origin of 80: the most triplets, document 01, "Returned numbers"; of 9: three rows of three numbers.
 unfoldable pub inverseAt : List Float → ℕ → List Float
 inverseAt inv t = map (λ e. getD inv (e * 80 + t) nan) (range 9)
 

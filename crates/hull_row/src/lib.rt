@@ -1,4 +1,7 @@
-// A row of a hull: the triplet whose least gain is greatest, its gains in their slots, scaled to power 1.
+// A row of a hull: the triplet whose least gain is greatest, its gains in their slots, scaled to power 1. Document 01, "A row" (Hull); source lines 513 to 581.
+// Origin of the arrays' lengths: document 01, "Returned numbers" (malformed): 40 real points with 3 numbers each, 120; 80 triplets with 3 point numbers each, 240, and an inverse of 3 times 3 numbers each, 720;
+// 14 imaginary points with 40 neighbours each, 560. Entry e of the inverse of triplet t stands at e * 80 + t, so row r, three entries, starts at r * 240 + t, and the next entries are 80 and 160 further.
+// Free to the program: the sign and payload of a NaN in a row of a layout made by hand. Every choice is a NaN, and a quiet one, since every gain is computed. A layout from `new` gives none (crate row_sound).
 ghost use mathlib.Core.Path.{_≡_};
 ghost use mathlib.Core.Bool.{true};
 ghost use mathlib.Core.List.{[], _∷_};
@@ -15,8 +18,8 @@ ghost use Rattle.hull_row.specs.HullRow.{hullRow, scaled};
 ghost use Rattle.hull_row.specs.Fields.{hullOf};
 ghost use Rattle.hull_row.specs.Steps.{gainAt, gainsAt, leastAt, leastsOf, productsOf, nearestIn, powerOf, timesOf};
 
-// Origin: vbap.rs line 574; a row whose power is not above it is not scaled.
-const LEAST_POWER: f32 = 1e-12;
+// Origin: vbap.rs line 574; 2b8cbccc. The power of a row has to be above it: else the row is left as it is, and nothing is divided by its root.
+const LEAST_ROW_POWER: f32 = 1e-12;
 
 // ---- the chosen triplet
 
@@ -103,7 +106,7 @@ fn scale(out: &mut [f32])
     ensures { λ _. ⌜ now (out .exit) ≡ scaled (now (out .entry)) ⌝ }
 {
     let pow = power(out);
-    if pow > LEAST_POWER {
+    if pow > LEAST_ROW_POWER {
         times(out, 1.0 / root::sqrt32(pow));
     }
 }

@@ -1,7 +1,7 @@
 -- Maximum, minimum and clamp by the tests that the code makes, in its order. Assumes nothing.
-use mathlib.Core.Path.{_≡_, refl, sym, ap, _∙_}
+use mathlib.Core.Path.{_≡_, refl, sym, ap, _∙_, subst}
 use mathlib.Core.Bool.{Bool, true, false, not, _&&_, cond}
-use lib.Ieee.{Float, nan, isNan, ne, lt, eq}
+use lib.Ieee.{Float, Format, nan, isNan, ne, add, lt, eq}
 use lib.Ieee.Compare.{differs-from-itself}
 use lib.Dec.{T}
 use Rattle.ieee.specs.Values.{+0, 1·0}
@@ -33,10 +33,18 @@ nan-yes x h = sym (is-nan x) ∙ h
 nan-no : (x : Float) → ne x x ≡ false → isNan x ≡ false
 nan-no x h = sym (is-nan x) ∙ h
 
+-- ---- two NaNs: their sum is one
+nan-sum : (f : Format) (x y : Float) → ne x x ≡ true → ne y y ≡ true → add f x y ≡ y
+unfolding add
+nan-sum f x y a b = ap (λ (v : Float). add f v y) (differs-from-itself x (subst T (sym a) tt)) ∙ sym (differs-from-itself y (subst T (sym b) tt))
+
 module _ (x y : Float) where
   pub max-first-nan : ne x x ≡ true → y ≡ maxOf x y
   unfolding maxOf
   max-first-nan a = sym (yes _ _ (nan-yes x a))
+
+  pub max-both-nan : (f : Format) → ne x x ≡ true → ne y y ≡ true → add f x y ≡ maxOf x y
+  max-both-nan f a b = nan-sum f x y a b ∙ max-first-nan a
 
   pub max-second-nan : ne x x ≡ false → ne y y ≡ true → x ≡ maxOf x y
   unfolding maxOf
@@ -59,6 +67,9 @@ module _ (x y : Float) where
   pub min-first-nan : ne x x ≡ true → y ≡ minOf x y
   unfolding minOf
   min-first-nan a = sym (yes _ _ (nan-yes x a))
+
+  pub min-both-nan : (f : Format) → ne x x ≡ true → ne y y ≡ true → add f x y ≡ minOf x y
+  min-both-nan f a b = nan-sum f x y a b ∙ min-first-nan a
 
   pub min-second-nan : ne x x ≡ false → ne y y ≡ true → x ≡ minOf x y
   unfolding minOf

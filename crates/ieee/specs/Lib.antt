@@ -1,3 +1,4 @@
 pub mod Values
 pub mod Order
 pub mod Remainder
+pub mod Examples

@@ -22,7 +22,7 @@ abs nan = nan
 abs (inf s) = inf false
 abs (fin s m e) = fin false m e
 
--- the sign bit, of −0 too. The logic has one NaN, without a sign: its sign counts as clear.
+-- the sign bit, of −0 too. The logic has one NaN, without a sign, so what is answered of a NaN is the program's choice: its sign counts as clear.
 unfoldable pub signBit : Float → Bool
 signBit nan = false
 signBit (inf s) = s

@@ -1,4 +1,6 @@
 // Document 01, "Number work": signs, maximum, minimum, clamp, the fourth power and rem_euclid. Widths and whole numbers are in crate widths, the root in crate root.
+// Of a NaN the promises say only that it is one: its sign and payload are the program's, and every choice is a NaN. What is computed is a quiet one (IEEE 754-2019, 6.2);
+// abs32, abs64 and clamp hand a NaN on as it came, as copies do.
 // Origin of the weights of the sign, 2^31 = 0x8000_0000 and 2^63 = 0x8000_0000_0000_0000: IEEE 754-2019, table 3.5.
 ghost use mathlib.Core.Path.{_≡_};
 ghost use mathlib.Core.Bool.{cond};
@@ -9,12 +11,12 @@ ghost use Rattle.ieee.specs.Remainder.{remEuclidOf};
 
 // ---- signs and kinds
 
-// Whether the sign bit is set, of -0 too; a NaN's counts as clear.
+// Whether the sign bit is set, of -0 too. The logic's one NaN has no sign, so what a NaN answers is the program's choice: its sign counts as clear.
 pub fn sign_bit32(x: f32) -> bool
     ensures { λ r. ⌜ r ≡ signBit x ⌝ }
 {
     if x != x {
-        return false;
+        return false; // the choice: clear
     }
     f32::to_bits(x) >= 0x8000_0000
 }
@@ -51,19 +53,22 @@ pub fn is_finite32(x: f32) -> bool
 }
 
 // The same of an f64.
-pub fn is_finite64(x: f64) -> bool
-    ensures { λ r. ⌜ r ≡ isFinite x ⌝ }
+pub fn is_finite64(v: f64) -> bool
+    ensures { λ r. ⌜ r ≡ isFinite v ⌝ }
 {
-    (x < 1.0 / 0.0) & (x > -1.0 / 0.0)
+    (v < 1.0 / 0.0) & (v > -1.0 / 0.0)
 }
 
 // ---- order and powers
 
-// The greater; the other value for a NaN, +0 for two zeros.
+// The greater; the other value for a NaN, +0 for two zeros. Of two NaNs the sum, which is a quiet NaN.
 pub fn max32(x: f32, y: f32) -> f32
     ensures { λ r. ⌜ r ≡ maxOf x y ⌝ }
 {
     if x != x {
+        if y != y {
+            return x + y;
+        }
         return y;
     }
     if y != y {
@@ -76,26 +81,33 @@ pub fn max32(x: f32, y: f32) -> f32
 }
 
 // The same of f64 values.
-pub fn max64(x: f64, y: f64) -> f64
-    ensures { λ r. ⌜ r ≡ maxOf x y ⌝ }
+pub fn max64(v: f64, w: f64) -> f64
+    ensures { λ r. ⌜ r ≡ maxOf v w ⌝ }
 {
-    if x != x {
-        return y;
+    if v != v {
+        if w != w {
+            return v + w;
+        }
+        return w;
     }
-    if y != y {
-        return x;
+    if w != w {
+        return v;
     }
-    if (x == 0.0) & (y == 0.0) {
+    if (v == 0.0) & (w == 0.0) {
         return 0.0;
     }
-    if x < y { y } else { x }
+    if v < w { w } else { v }
 }
 
-// The lesser; the other value for a NaN. Of two zeros document 01 leaves the choice: here the first; every choice is a zero, and it is only ever compared.
+// The lesser; the other value for a NaN, and of two NaNs the sum, which is a quiet NaN.
+// Of two zeros document 01 leaves the choice to the program: here the first; every choice is a zero, and it is only ever compared.
 pub fn min32(x: f32, y: f32) -> f32
     ensures { λ r. ⌜ r ≡ minOf x y ⌝ }
 {
     if x != x {
+        if y != y {
+            return x + y;
+        }
         return y;
     }
     if y != y {
@@ -104,7 +116,7 @@ pub fn min32(x: f32, y: f32) -> f32
     if y < x { y } else { x }
 }
 
-// From 0 to 1; a NaN and -0 stay.
+// From 0 to 1; a NaN and -0 stay as they came. Origin of 0 and 1: the bounds of every clamp in vbap.rs, lines 90, 149, 151 and 484.
 pub fn clamp(x: f32) -> f32
     ensures { λ r. ⌜ r ≡ clampOf x ⌝ }
 {

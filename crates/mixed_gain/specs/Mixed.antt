@@ -1,12 +1,13 @@
--- Document 01, "The ramp and the mixed gain follow S"; source lines 143 to 153: normalized_lerp_gain. Assumes nothing.
+-- Document 01, "The ramp and the mixed gain follow S"; source lines 143 to 153: normalized_lerp_gain.
+-- Where the gain is a NaN, its sign and payload are the program's: every choice is a NaN, the only one that the logic has. Assumes nothing.
 use lib.Ieee.{Float, binary32, add, sub, mul, div, ofBits}
 use Rattle.ieee.specs.Values.{1·0, 2·0}
 use Rattle.ieee.specs.Order.{maxOf, clampOf}
 use Rattle.root.specs.Root.{sqrtOf}
 
--- 1e-12 in 32 bits. Origin: vbap.rs line 152; the squared norm is raised to it, so that the division stands.
-abbrev pub leastNorm : Float
-leastNorm = ofBits binary32 0x2b8c_bccc
+-- LEAST_MIX_NORM_SQ, 1e-12. Origin: vbap.rs line 152; the squared norm of a mix is raised to it, so that nothing is divided by the root of 0.
+abbrev pub leastMixNormSq : Float
+leastMixNormSq = ofBits binary32 0x2b8c_bccc
 
 -- (1 − t)·(1 − t) + t·t + 2·t·(1 − t)·dot, dot clamped
 unfoldable pub normSqOf : Float → Float → Float
@@ -19,4 +20,4 @@ normSqOf t dot =
 unfoldable pub normalizedLerpGainOf : Float → Float → Float → Float → Float
 normalizedLerpGainOf from to dot at =
     let t = clampOf at in
-    div binary32 (add binary32 from (mul binary32 (sub binary32 to from) t)) (sqrtOf binary32 (maxOf (normSqOf t dot) leastNorm))
+    div binary32 (add binary32 from (mul binary32 (sub binary32 to from) t)) (sqrtOf binary32 (maxOf (normSqOf t dot) leastMixNormSq))

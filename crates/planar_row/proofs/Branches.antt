@@ -15,7 +15,7 @@ use Rattle.planar.specs.declared.Law.{Law}
 use Rattle.planar.specs.declared.Law.the-variants.{Inverse, Crossfade}
 use Rattle.planar.specs.declared.PlanarPair.{PlanarPair}
 use Rattle.planar.specs.Planar.{noPair}
-use Rattle.planar_row.specs.PlanarRow.{leastPower, Two, addAt, rel, contains, chosen, byInverse, byCrossfade, byLaw, planarSpread, spread, pairRow, planarRow}
+use Rattle.planar_row.specs.PlanarRow.{leastPairNorm, Two, addAt, rel, contains, chosen, byInverse, byCrossfade, byLaw, planarSpread, spread, pairRow, planarRow}
 use Rattle.lists.proofs.Search.{first-here, first-on, first-end}
 use Rattle.lists.proofs.Ends.{last-at}
 use Rattle.lists.proofs.Tests.{cond-yes, cond-no}
@@ -78,14 +78,14 @@ module _ (n : ℕ) (el : Float) (p : PlanarPair) (g : Two) (slots : List ℕ) wh
   sounding norm = spread (planarSpread el) slots (addAt (set silent (p .a) (div binary32 (g .ga) norm)) (p .b) (div binary32 (g .gb) norm))
 
   module _ {norm : Float} (is : norm ≡ sqrtOf binary32 (add binary32 (mul binary32 (g .ga) (g .ga)) (mul binary32 (g .gb) (g .gb)))) where
-    row-is : cond (lt leastPower norm) (sounding norm) silent ≡ pairRow n el p g slots
+    row-is : cond (lt leastPairNorm norm) (sounding norm) silent ≡ pairRow n el p g slots
     unfolding pairRow squareOf
-    row-is = ap (λ (x : Float). cond (lt leastPower x) (sounding x) silent) is
+    row-is = ap (λ (x : Float). cond (lt leastPairNorm x) (sounding x) silent) is
 
-    pub row-silent : lt leastPower norm ≡ false → silent ≡ pairRow n el p g slots
+    pub row-silent : lt leastPairNorm norm ≡ false → silent ≡ pairRow n el p g slots
     row-silent h = sym (cond-no (sounding norm) silent h) ∙ row-is
 
-    pub row-sounds : lt leastPower norm ≡ true → sounding norm ≡ pairRow n el p g slots
+    pub row-sounds : lt leastPairNorm norm ≡ true → sounding norm ≡ pairRow n el p g slots
     row-sounds h = sym (cond-yes (sounding norm) silent h) ∙ row-is
 
   -- what the code makes, store after store

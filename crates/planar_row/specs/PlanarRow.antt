@@ -1,5 +1,6 @@
 -- Document 01, "A row" (Planar); source lines 80 to 93 (planar_spread) and 460 to 511 (the planar branch of gains).
--- A row is a gain for each of n places, n = min(outputs, buffer length). `set` beyond the end of a list changes nothing: the source's `if slot < n`. Assumes nothing.
+-- A row is a gain for each of n places, n = min(outputs, buffer length). `set` beyond the end of a list changes nothing: the source's `if slot < n`.
+-- Where a gain is a NaN, which only a layout made by hand has (crate row_sound), its sign and payload are the program's: every choice is a NaN, the only one that the logic has. Assumes nothing.
 use Prim.Native.Nat.{ℕ}
 use mathlib.Core.Bool.{Bool, _&&_, not, cond}
 use mathlib.Core.List.{List, foldl}
@@ -27,20 +28,21 @@ count32 n = ofInt binary32 (pos n)
 abbrev pub planarMaxElevation : Float
 planarMaxElevation = ofBits binary32 0x3db2_ca58
 
--- TAU and FRAC_PI_2. Origin: std::f32::consts.
+-- TAU, 6.2831855. Origin: std::f32::consts::TAU, vbap.rs line 464.
 abbrev pub tau32 : Float
 tau32 = ofBits binary32 0x40c9_0fdb
 
+-- FRAC_PI_2, 1.5707964. Origin: std::f32::consts::FRAC_PI_2, vbap.rs lines 90, 91 and 488.
 abbrev pub halfPi32 : Float
 halfPi32 = ofBits binary32 0x3fc9_0fdb
 
--- INSIDE_EPS, 1e-6. Origin: vbap.rs line 57.
+-- INSIDE_EPS, 1e-6. Origin: vbap.rs line 57; how far past a pair's gap an azimuth is still inside it.
 abbrev pub insideEps : Float
 insideEps = ofBits binary32 0x3586_37bd
 
--- 1e-12. Origin: vbap.rs lines 493 and 574; a norm or a power that is not above it scales nothing.
-abbrev pub leastPower : Float
-leastPower = ofBits binary32 0x2b8c_bccc
+-- LEAST_PAIR_NORM, 1e-12. Origin: vbap.rs line 493; the norm of a pair's two gains has to be above it: else the row stays silent, and nothing is divided by it.
+abbrev pub leastPairNorm : Float
+leastPairNorm = ofBits binary32 0x2b8c_bccc
 
 -- ---- places
 
@@ -111,7 +113,7 @@ unfoldable pub pairRow : ℕ → Float → PlanarPair → Two → List ℕ → L
 pairRow n el p g slots =
     let norm = sqrtOf binary32 (add binary32 (squareOf (g .ga)) (squareOf (g .gb))) in
     let row = addAt (set (replicate n +0) (p .a) (div binary32 (g .ga) norm)) (p .b) (div binary32 (g .gb) norm) in
-    cond (lt leastPower norm) (spread (planarSpread el) slots row) (replicate n +0)
+    cond (lt leastPairNorm norm) (spread (planarSpread el) slots row) (replicate n +0)
 
 unfoldable pub planarRow : ℕ → Float → Float → List PlanarPair → List ℕ → List Float
 planarRow n az el pairs slots =

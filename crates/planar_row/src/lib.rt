@@ -1,4 +1,6 @@
 // A row of a planar layout: document 01, "A row" (Planar); source lines 80 to 93 and 460 to 511.
+// Origin of 40, the length of the arrays of pairs and slots: document 01, "Returned numbers" (malformed: pairs over 40, planar slots over 40).
+// Free to the program: the sign and payload of a NaN in a row of a layout made by hand. Every choice is a NaN, and a quiet one, since every gain is computed. A layout from `new` gives none (crate row_sound).
 ghost use mathlib.Core.Path.{_≡_};
 ghost use Prim.Native.Nat.{_≤_, _<_};
 ghost use lib.ListN.{length, set, replicate, take};
@@ -7,19 +9,19 @@ ghost use Rattle.planar_row.specs.PlanarRow.{addAt, rel, contains, chose
 use planar::Law;
 use planar::PlanarPair;
 
-// Origin: vbap.rs line 52; the elevation up to which a speaker or a source counts as planar.
+// Origin: vbap.rs line 52; 3db2ca58. The elevation up to which a speaker or a source counts as planar.
 const PLANAR_MAX_ELEVATION: f32 = 0.0873;
 
-// Origin: vbap.rs line 57; how far past a pair's gap an azimuth is still inside it.
+// Origin: vbap.rs line 57; 358637bd. How far past a pair's gap an azimuth is still inside it.
 const INSIDE_EPS: f32 = 1e-6;
 
-// Origin: vbap.rs line 493; a norm that is not above it scales nothing.
-const LEAST_POWER: f32 = 1e-12;
+// Origin: vbap.rs line 493; 2b8cbccc. The norm of a pair's two gains has to be above it: else the row stays silent, and nothing is divided by it.
+const LEAST_PAIR_NORM: f32 = 1e-12;
 
-// Origin: std::f32::consts.
+// Origin: std::f32::consts::TAU, vbap.rs line 464; 40c90fdb.
 const TAU: f32 = 6.2831855;
 
-// Origin: std::f32::consts.
+// Origin: std::f32::consts::FRAC_PI_2, vbap.rs lines 90, 91 and 488; 3fc90fdb.
 const FRAC_PI_2: f32 = 1.5707964;
 
 // The gains of a and b, before they are scaled.
@@ -92,19 +94,19 @@ fn chosen_of_many(pairs: [PlanarPair; 40], n: usize, az: f32) -> PlanarPair
 }
 
 // The same of few.
-fn chosen_of_few(pairs: [PlanarPair; 8], n: usize, az: f32) -> PlanarPair
+fn chosen_of_few(few: [PlanarPair; 8], n: usize, az: f32) -> PlanarPair
     requires { ⌜ (0 < n) × (n ≤ 8) ⌝ }
-    ensures { λ r. ⌜ r ≡ chosen az (take n pairs) ⌝ }
+    ensures { λ r. ⌜ r ≡ chosen az (take n few) ⌝ }
 {
     let mut i: usize = 0;
     while i < n {
-        let p = pairs[i];
+        let p = few[i];
         if is_inside(az, p) {
             return p;
         }
         i += 1;
     }
-    pairs[n - 1]
+    few[n - 1]
 }
 
 // The same, where most layouts have few pairs, and only these are copied then.
@@ -249,7 +251,7 @@ fn pair_row(
     ensures { λ r. ⌜ now (row .exit) ≡ pairRow (length (now (row .entry))) el p (record { ga = g .ga; gb = g .gb }) (take «num_slots» slots) ⌝ }
 {
     let norm = root::sqrt32(g.ga * g.ga + g.gb * g.gb);
-    if !(LEAST_POWER < norm) {
+    if !(LEAST_PAIR_NORM < norm) {
         return;
     }
     put(&mut *row, p.a, g.ga / norm);

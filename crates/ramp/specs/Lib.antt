@@ -1,2 +1,3 @@
 pub mod Ramp
 pub mod Turns
+pub mod Examples

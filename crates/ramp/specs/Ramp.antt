@@ -1,4 +1,5 @@
--- Document 01, "The ramp and the mixed gain follow S"; source lines 585 to 602: ramp_add. Assumes nothing.
+-- Document 01, "The ramp and the mixed gain follow S"; source lines 585 to 602: ramp_add.
+-- Where a ramped sample is a NaN, its sign and payload are the program's: every choice is a NaN, the only one that the logic has. The rest of dst stays as it is. Assumes nothing.
 use Prim.Native.Nat.{ℕ, _+_, min, max}
 use mathlib.Core.Bool.{cond}
 use mathlib.Core.List.{List, _++_, map}

@@ -34,7 +34,7 @@ fn steady(dst: &mut [f32], src: &[f32], n: usize, g: f32)
     }
 }
 
-// Samples at moving gains, eight at a time while eight are left and their counts are exact: how many.
+// Samples at moving gains, eight at a time while eight are left and their counts are exact: how many. Origin of 8 and of the first counts, 1 to 8: crate eights; sample i has the count i + 1, vbap.rs line 599.
 fn by_eights(dst: &mut [f32], src: &[f32], n: usize, g0: f32, step: f32) -> usize
     requires { ⌜ (n ≤ length (now dst)) × (n ≤ length (now src)) ⌝ }
     ensures within { λ r. ⌜ r ≤ n ⌝ }
@@ -68,7 +68,7 @@ fn one_by_one(dst: &mut [f32], src: &[f32], from: usize, n: usize, g0: f32, step
 }
 
 // Adds src to dst at gains that go linearly from g0, not reached, to g1. Samples past the shorter of the two stay, bit by bit.
-// Free to the program: the sign and payload of a NaN in a ramped sample; every choice is a NaN.
+// Free to the program: the sign and payload of a NaN in a ramped sample. Every choice is a NaN, and a quiet one, since a ramped sample is a sum.
 pub fn ramp_add(dst: &mut [f32], src: &[f32], g0: f32, g1: f32)
     ensures { λ r. ⌜ now (dst .exit) ≡ rampAddOf (now (dst .entry)) (now (src .entry)) g0 g1 ⌝ }
 {

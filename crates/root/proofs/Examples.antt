@@ -1,22 +1,21 @@
--- Roots that document 01 gives, "Cases", and a few at the formats' ends: the definition gives each by computation. Assumes nothing.
-use mathlib.Core.Path.{_≡_, refl}
-use lib.Ieee.{binary32, binary64, ofBits}
-use Rattle.ieee.specs.Values.{2·0}
+-- The roots of specs/Examples.antt: the definition gives each by computation. Assumes nothing.
+use mathlib.Core.Path.{refl}
+use lib.Ieee.{ofBits}
 use Rattle.root.specs.Root.{sqrtOf}
+use Rattle.root.specs.Examples.{RootOf2In32Bits, RootOf2In64Bits, RootOfTheSmallest, RootOfMinusZero}
 
--- "√2 in 32 bits is hexadecimal 3FB504F3"
-root-of-2-in-32-bits : sqrtOf binary32 2·0 ≡ ofBits binary32 0x3fb5_04f3
+pub root-of-2-in-32-bits : RootOf2In32Bits
 unfolding sqrtOf ofBits
 root-of-2-in-32-bits = refl
 
-root-of-2-in-64-bits : sqrtOf binary64 2·0 ≡ ofBits binary64 0x3ff6_a09e_667f_3bcd
+pub root-of-2-in-64-bits : RootOf2In64Bits
 unfolding sqrtOf ofBits
 root-of-2-in-64-bits = refl
 
-root-of-the-smallest : sqrtOf binary64 (ofBits binary64 1) ≡ ofBits binary64 0x1e60_0000_0000_0000
+pub root-of-the-smallest : RootOfTheSmallest
 unfolding sqrtOf ofBits
 root-of-the-smallest = refl
 
-root-of-minus-zero : sqrtOf binary32 (ofBits binary32 0x8000_0000) ≡ ofBits binary32 0x8000_0000
+pub root-of-minus-zero : RootOfMinusZero
 unfolding sqrtOf ofBits
 root-of-minus-zero = refl

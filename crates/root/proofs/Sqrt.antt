@@ -6,7 +6,7 @@ use native.Mathlib.Omega.{arith}
 use mathlib.Core.Bool.{Bool, true, false, not, true≢false, false≢true}
 use lib.Dec.{T, leb, eqb}
 use lib.Pow.{pow-pos}
-use lib.Ieee.{Float, nan, inf, fin, Format, binary32, binary64, prec, low, up, down, fits, isNan, hid, ones, top, toBits}
+use lib.Ieee.{Float, nan, inf, fin, Format, binary32, binary64, prec, low, up, down, add, fits, isNan, hid, ones, top, toBits}
 use lib.Ieee.Fits.{up-pos, down-pos}
 use lib.Ieee.Exact.{HasValue}
 use borrow.Author.Tests.{eqb-true, eqb-false}
@@ -56,9 +56,9 @@ of-inf : (f : Format) (x : Float) (s : Bool) → x ≡ inf s → (s ≡ true →
 unfolding sqrtOf
 of-inf f x s e = ((λ z. sym (ap (sqrtOf f) (e ∙ ap inf z))), (λ z. e ∙ ap inf z ∙ sym (ap (sqrtOf f) (e ∙ ap inf z))))
 
-pub sqrt-nan : (f : Format) (x : Float) → x ≡ nan → x ≡ sqrtOf f x
-unfolding sqrtOf
-sqrt-nan f x e = e ∙ sym (ap (sqrtOf f) e)
+pub sqrt-nan : (f : Format) (x : Float) → x ≡ nan → add f x x ≡ sqrtOf f x
+unfolding sqrtOf add
+sqrt-nan f x e = ap (λ (v : Float). add f v v) e ∙ sym (ap (sqrtOf f) e)
 
 -- ---- by the fields: the sign's bit, the exponent's field and the digits
 high : (f : Format) (t k : ℕ) → 0 < (t + hid f) * 2 ^ k

@@ -31,7 +31,7 @@ roundRoot f n =
     let h = (2 * q + 1) * 2 ^ k in
     units f false (nearest q (compare (n * 4) (h * h))) k
 
--- A NaN, and what is below zero, has no root. Each zero is its own root, with its sign. Every finite value of the format is a whole number of its smallest values, so x * 4 ^ low is whole.
+-- A NaN, and what is below zero, has no root: the result is a NaN, whose sign and payload are the program's; every choice is a NaN, the only one that the logic has. Each zero is its own root, with its sign. Every finite value of the format is a whole number of its smallest values, so x * 4 ^ low is whole.
 unfoldable pub sqrtOf : Format → Float → Float
 unfolding roundRoot
 sqrtOf f nan = nan

@@ -1,4 +1,5 @@
 // Document 01, "Number work": the square root of IEEE 754, to the nearest value, a tie to the even one.
+// Of a NaN the promise says only that the root is one: its sign and payload are the program's, and every choice is a NaN. It is a quiet one (IEEE 754-2019, 6.2): a NaN plus itself.
 // Every literal that is a format's constant is IEEE 754-2019, table 3.5. binary32: 24 digits (prec), largest exponent 127 (emax), smallest value 2^-149.
 // binary64: 53 digits, largest exponent 1023, smallest value 2^-1074. In a bit pattern the exponent's field weighs 2^23 = 0x80_0000 and 2^52 = 0x10_0000_0000_0000,
 // the sign 2^31 = 0x8000_0000 and 2^63 = 0x8000_0000_0000_0000, and the highest field, of infinities and NaNs, is 255 and 2047.
@@ -43,7 +44,7 @@ fn sqrt64_by_digits(x: f64) -> f64
     ensures { λ r. ⌜ r ≡ sqrtOf binary64 x ⌝ }
 {
     if x != x {
-        return x;
+        return x + x;
     }
     let b = f64::to_bits(x);
     // Origin: the exponent's field and the digits of a binary64
@@ -73,7 +74,7 @@ fn sqrt32_by_digits(x: f32) -> f32
     ensures { λ r. ⌜ r ≡ sqrtOf binary32 x ⌝ }
 {
     if x != x {
-        return x;
+        return x + x;
     }
     let b = f32::to_bits(x);
     // Origin: the exponent's field and the digits of a binary32
@@ -98,14 +99,15 @@ fn sqrt32_by_digits(x: f32) -> f32
     }
 }
 
-// A guess at the root of an x, and at 1 / (2 * root), the slope of the root there; upper is near the root and has few digits. Nothing is promised of a guess: what is made from it is checked.
+// A guess at the root of an x, and at 1 / (2 * root), the slope of the root there; upper is near the root and has few digits.
+// Nothing is promised of a guess, and nothing rests on one: `sqrt64_near` promises the root for every guess, since what is made from it is checked in whole numbers. A bad guess costs time and no bit.
 pub struct Guess {
     pub root: f64,
     pub upper: f64,
     pub slope: f64,
 }
 
-// A guess, with upper from a rough one.
+// A guess, with upper from a rough one. Promises nothing, as a guess is checked.
 pub fn guess_of(rough: f64, root: f64, slope: f64) -> Guess {
     // Origin: 3 * 2^26, added and taken off, leaves 26 digits of a number from 1 to 2, whose square is exact
     Guess {
@@ -115,7 +117,7 @@ pub fn guess_of(rough: f64, root: f64, slope: f64) -> Guess {
     }
 }
 
-// A guess for an x from 1 to 4, by one quotient; no less than 1 at 1, to which every power of 4 is scaled.
+// A guess for an x from 1 to 4, by one quotient; no less than 1 at 1, to which every power of 4 is scaled. Promises nothing, as a guess is checked.
 // Origin: from 0.3431 * (x + 2), within 0.03 of the root, a step of Heron's, scaled to be within 0.00023, and one of Halley's, within 3e-12: lead * product (x + a) / product (x + b).
 pub fn guess_root(x: f64) -> Guess {
     let a = (x + 122.300254909987) * (x + 0.0327063913557988);
@@ -142,7 +144,7 @@ fn sqrt64_from(x: f64, g: f64) -> f64
     ensures { λ r. ⌜ r ≡ sqrtOf binary64 x ⌝ }
 {
     if x != x {
-        return x;
+        return x + x;
     }
     let b = f64::to_bits(x);
     // Origin: the exponent's field, with the sign; 2047 is that of infinities and NaNs
@@ -208,7 +210,7 @@ pub fn sqrt32(x: f32) -> f32
     ensures { λ r. ⌜ r ≡ sqrtOf binary32 x ⌝ }
 {
     if x != x {
-        return x;
+        return x + x;
     }
     let b = f32::to_bits(x);
     // Origin: the exponent's field, with the sign; 255 is that of infinities and NaNs

@@ -56,6 +56,7 @@ fn is_root52(n: u64, q: u64) -> bool
 }
 
 // The digits of g where they are the root of n * 2^52 to the nearest whole number, else 0.
+// One side is promised: what is not 0 is the root. That a good guess is not answered with 0 is left open, and nothing rests on it: `root` then finds the digits one by one.
 pub fn root_digits64(n: u64, g: f64) -> u64
     requires { ⌜ n < 2 ^ 54 ⌝ }
     ensures { λ q. ⌜ (0 < q → (2 ^ 52 ≤ q) × (q < 2 ^ 53) × (q * q < n * 2 ^ 52 + q) × (n * 2 ^ 52 ≤ q * q + q)) ⌝ }
@@ -76,7 +77,7 @@ pub fn root_digits64(n: u64, g: f64) -> u64
     0
 }
 
-// The upper 24 digits of g where they are the root of n * 2^23 to the nearest whole number, else 0.
+// The upper 24 digits of g where they are the root of n * 2^23 to the nearest whole number, else 0. One side is promised, as above.
 pub fn root_digits32(n: u64, g: f64) -> u64
     requires { ⌜ n < 2 ^ 25 - 1 ⌝ }
     ensures { λ q. ⌜ (0 < q → (2 ^ 23 ≤ q) × (q < 2 ^ 24) × (q * q < n * 2 ^ 23 + q) × (n * 2 ^ 23 ≤ q * q + q)) ⌝ }

@@ -17,7 +17,7 @@ use Rattle.ieee.specs.Values.{+0, 1·0}
 use Rattle.ieee.specs.Order.{squareOf}
 use Rattle.root.specs.Root.{sqrtOf}
 use Rattle.planar.specs.declared.PlanarPair.{PlanarPair}
-use Rattle.planar_row.specs.PlanarRow.{planarMaxElevation, halfPi32, count32, leastPower, addAt, contains, chosen, Two, byLaw, planarSpread, spreadGain, spreadAt, spread, pairRow, planarRow}
+use Rattle.planar_row.specs.PlanarRow.{planarMaxElevation, halfPi32, count32, leastPairNorm, addAt, contains, chosen, Two, byLaw, planarSpread, spreadGain, spreadAt, spread, pairRow, planarRow}
 use Rattle.bounds.proofs.Units.{Val, unitsOf, mul-round, div-round, round-Val}
 use Rattle.bounds.proofs.Held.{held, fits-held, grid-held, grid-le}
 use Rattle.bounds.proofs.Size.{Mag, Most, most-of, most-sign, val-mag, mag-more, mag-add, mag-mul, mag-div, mul-most, times-most, square-most, rest-most, div-most, most-absorb, round-mag, sum-val, unlike-self}
@@ -49,7 +49,7 @@ record Over (a b : Float) : Type 0 where
   pub first : Mag binary32 (div binary32 a (normOf a b)) (2 * L)
   pub second : Mag binary32 (div binary32 b (normOf a b)) (2 * L)
 
-module _ {a b : Float} (p : Gain a) (q : Gain b) (above : T (lt leastPower (normOf a b))) where
+module _ {a b : Float} (p : Gain a) (q : Gain b) (above : T (lt leastPairNorm (normOf a b))) where
   over-norm : Over a b
   unfolding ofBits
   over-norm =
@@ -61,10 +61,10 @@ module _ {a b : Float} (p : Gain a) (q : Gain b) (above : T (lt leastPower (norm
       let B = grid binary32 (Y * Y) (L * L) in
       let s = sum-val (2 ^ 65 * L) (i .0) (j .0) (held binary32 1 214 (lit≤ tt)) (lit< tt) (le-trans (add-le-add (i .1) (j .1)) (lit≤ tt)) in
       elim (eq-zero-or-pos (s .Z)) [
-        | inl e ↦ absurd (not-suc-le-zero (lt-val {X = unitsOf binary32 leastPower} (record { has = (refl, refl) }) (sqrt-zero (subst (λ (S : ℕ). Val binary32 (add binary32 (squareOf a) (squareOf b)) false S) e (s .val))) above))
+        | inl e ↦ absurd (not-suc-le-zero (lt-val {X = unitsOf binary32 leastPairNorm} (record { has = (refl, refl) }) (sqrt-zero (subst (λ (S : ℕ). Val binary32 (add binary32 (squareOf a) (squareOf b)) false S) e (s .val))) above))
         | inr g ↦
             let r = sqrt-val (add-fits binary32 (squareOf a) (squareOf b)) (s .val) g in
-            let R-ge : 2 ^ 109 ≤ r .R = le-trans (lit≤ tt) (le-of-lt (lt-val {X = unitsOf binary32 leastPower} (record { has = (refl, refl) }) (r .val) above)) in
+            let R-ge : 2 ^ 109 ≤ r .R = le-trans (lit≤ tt) (le-of-lt (lt-val {X = unitsOf binary32 leastPairNorm} (record { has = (refl, refl) }) (r .val) above)) in
             let pos : 0 < r .R = lt-of-lt-of-le (lit< tt) R-ge in
             record {
               first = quotient (p .most) (r .val) pos (norm-part X (s .Z) (fits-held binary32 a (p .fit) (p .most .val)) (lt-of-le-of-lt (p .most .most) (lit< tt)) (s .least A (grid-held binary32 (X * X) (L * L)) (le-add-right A B)) r R-ge);
@@ -139,7 +139,7 @@ spread-row w slots row h few m = by slots few (lt +0 w)
 
 pair-row : (n : ℕ) (el : Float) (p : PlanarPair) (t : Two) (slots : List ℕ) → T (finite el) → T (fits binary32 el) → Gains t → length slots ≤ 40 → Row B40 (pairRow n el p t slots)
 unfolding pairRow
-pair-row n el p t slots ok fit g few = by (lt leastPower (normOf (t .ga) (t .gb))) (λ c. over-norm (g .a) (g .b) c)
+pair-row n el p t slots ok fit g few = by (lt leastPairNorm (normOf (t .ga) (t .gb))) (λ c. over-norm (g .a) (g .b) c)
   where
     two : {v : Float} → Mag binary32 v (2 * L) → (u : Float) → Mag binary32 u (2 * L) → Mag binary32 (add binary32 u v) B40
     two h u k = mag-more (lit≤ tt) (mag-add (4 * L) k h (held binary32 4 149 (lit≤ tt)) (lit< tt) (lit≤ tt))

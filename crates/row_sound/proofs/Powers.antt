@@ -12,7 +12,7 @@ use lib.Ieee.Scale.{finite}
 use Rattle.ieee.specs.Values.{+0, 1·0}
 use Rattle.ieee.specs.Order.{squareOf}
 use Rattle.root.specs.Root.{sqrtOf}
-use Rattle.planar_row.specs.PlanarRow.{leastPower}
+use Rattle.hull_row.specs.HullRow.{leastRowPower}
 use Rattle.hull_row.specs.HullRow.{scaled}
 use Rattle.bounds.proofs.Units.{unitsOf, mul-round}
 use Rattle.bounds.proofs.Held.{held}
@@ -38,16 +38,16 @@ or-left : (a b : Bool) → T a → T (a || b)
 or-left true b h = tt
 or-left false b h = absurd h
 
-finite-root : (p : Float) → T (finite p) → T (fits binary32 p) → T (lt leastPower p) → Most binary32 (div binary32 1·0 (sqrtOf binary32 p)) false (2 ^ 21 * L)
+finite-root : (p : Float) → T (finite p) → T (fits binary32 p) → T (lt leastRowPower p) → Most binary32 (div binary32 1·0 (sqrtOf binary32 p)) false (2 ^ 21 * L)
 unfolding ofBits le
 finite-root p ok fit above =
-    let b = above-least {y = leastPower} {Y = unitsOf binary32 leastPower} (mag-max binary32 p ok fit) (record { has = (refl, refl) }) (lit< tt) (or-left (lt leastPower p) (eq leastPower p) above) in
+    let b = above-least {y = leastRowPower} {Y = unitsOf binary32 leastRowPower} (mag-max binary32 p ok fit) (record { has = (refl, refl) }) (lit< tt) (or-left (lt leastRowPower p) (eq leastRowPower p) above) in
     let r = sqrt-val fit (b .val) (lt-of-lt-of-le (lit< tt) (b .least)) in
     let R-ge : 2 ^ 129 ≤ r .R = r .least (2 ^ 129) (held binary32 1 129 (lit≤ tt)) (lit< tt) (le-trans (lit≤ tt) (mul-le-mul-right L (b .least))) in
     let one : Most binary32 1·0 false L = record { X = L; val = record { has = (refl, refl) }; most = le-refl L } in
     div-most (2 ^ 21 * L) (2 ^ 129) one (r .val) R-ge (lit< tt) (held binary32 1 170 (lit≤ tt)) (lit< tt) (lit≤ tt)
 
-inverse-root : (p : Float) → T (fits binary32 p) → T (lt leastPower p) → Most binary32 (div binary32 1·0 (sqrtOf binary32 p)) false (2 ^ 21 * L)
+inverse-root : (p : Float) → T (fits binary32 p) → T (lt leastRowPower p) → Most binary32 (div binary32 1·0 (sqrtOf binary32 p)) false (2 ^ 21 * L)
 unfolding ofBits lt
 inverse-root nan fit above = absurd above
 inverse-root (inf true) fit above = absurd above
@@ -58,7 +58,7 @@ inverse-root (fin s m e) fit above = finite-root (fin s m e) tt fit above
 
 pub scaled-by : (P : List Float → Type 0) (row : List Float) → P row → ((x : Float) → Most binary32 x false (2 ^ 21 * L) → P (map (λ g. mul binary32 g x) row)) → P (scaled row)
 unfolding scaled fits
-scaled-by P row h k = by (lt leastPower power) (inverse-root power (power-fits +0 row tt))
+scaled-by P row h k = by (lt leastRowPower power) (inverse-root power (power-fits +0 row tt))
   where
     power : Float
     power = foldl (λ p g. add binary32 p (squareOf g)) +0 row

@@ -15,7 +15,7 @@ use Rattle.planar.specs.declared.PlanarPair.{PlanarPair}
 use Rattle.hull.specs.Triplets.{Triplet}
 use Rattle.panner.specs.Shape.{HullShape, Shape, silent, mono, planar, hull}
 use Rattle.panner.specs.Malformed.{usedSlots}
-use Rattle.planar_row.specs.PlanarRow.{addAt, count32, leastPower, Two, byLaw, chosen, planarSpread, spreadGain, spreadAt, spread, pairRow, planarRow}
+use Rattle.planar_row.specs.PlanarRow.{addAt, count32, leastPairNorm, Two, byLaw, chosen, planarSpread, spreadGain, spreadAt, spread, pairRow, planarRow}
 use Rattle.filling.specs.Filling.{maxImaginary}
 use Rattle.hull_row.specs.HullRow.{Aimed, bestOf, nearestPoint, nearestRow, Filling, give, filling, shared, scaled, tripletRow, rowBy, hullRow}
 use Rattle.gains.specs.Gains.{rowIn}
@@ -56,7 +56,7 @@ module _ (Q : List Float → Type 0) (U : ℕ → Type 0) (W : Float → Type 0)
       let norm = sqrtOf binary32 (add binary32 (squareOf (g .ga)) (squareOf (g .gb))) in
       let first = set (replicate n +0) (p .a) (div binary32 (g .ga) norm) in
       let row = addAt first (p .b) (div binary32 (g .gb) norm) in
-      either (lt leastPower norm) (spread (planarSpread el) slots row) (replicate n +0)
+      either (lt leastPairNorm norm) (spread (planarSpread el) slots row) (replicate n +0)
       (spread-kept (planarSpread el) slots row u (added first (p .b) (div binary32 (g .gb) norm) b (put (replicate n +0) (p .a) (div binary32 (g .ga) norm) a (made .quotient (g .ga) norm) z))) z
 
   planar-kept : (n : ℕ) (az el : Float) (pairs : List PlanarPair) (slots : List ℕ) → Each (λ p. Each U (p .a ∷ p .b ∷ [])) pairs → Each U slots → Q (replicate n +0) → Q (planarRow n az el pairs slots)

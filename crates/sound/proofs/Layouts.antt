@@ -29,7 +29,7 @@ use Rattle.panner.specs.Malformed.{usedSlots}
 use Rattle.layout.specs.Layout.{outputsOf, active, buildHullOf, level, shapeOf, layoutOf, pannerOf}
 use Rattle.layout.proofs.Slots.{active-few}
 use Rattle.bounds.proofs.Size.{Mag}
-use Rattle.sound.specs.Sound.{Within, SoundLaw, SoundPair, SoundPlanar, SoundTriplet, SoundDirection, SoundNeighbours, SoundHull, Sound, Active, Number, NumberLaw, NumberPair, NoNan}
+use Rattle.sound.specs.Sound.{Within, SoundLaw, SoundPair, SoundPlanar, SoundTriplet, SoundDirection, SoundNeighbours, SoundHull, Sound, Active, Number, NumberLaw, NumberPair, NoNan, LayoutSound, PannerNoNan, SlotsActive, LfeUnused}
 use Rattle.lists.proofs.Each.{each-all, each-imply, each-append, each-getD, each-filled, each-map, each-flatMap, each-range, each-member}
 use Rattle.sound.proofs.Distinct.{member-none}
 use Rattle.sound.proofs.Directions.{L, Direction}
@@ -106,11 +106,7 @@ shape-sound outputs (s ∷ (t ∷ r)) u d l f = by (every level (s ∷ t ∷ r))
     by true = planar-sound outputs (s ∷ t ∷ r) u d l f (omega arith)
     by false = hull-sound outputs (s ∷ t ∷ r) u d l f (omega arith)
 
-abbrev pub Fit : List Float → Type 0
-Fit positions = Each (λ v. T (fits binary32 v)) positions
-
--- of any positions in 32 bits, finite or not, and any LFE slots
-pub layout-sound : (positions : List Float) (lfe : List ℕ) → Fit positions → Sound (layoutOf positions lfe .outputs) (layoutOf positions lfe .shape)
+pub layout-sound : LayoutSound
 unfolding layoutOf slotsOf
 layout-sound positions lfe h =
     let act = active positions lfe in
@@ -188,7 +184,7 @@ laid-no-nan l h =
           (each-imply NumberTriplet (λ t. Number (getD (t .inv) e nan)) (λ t g. let n = g .nine in each-getD Number (t .inv) e nan (omega arith) (g .each)) (r .tris) ts))));
     }
 
-pub panner-no-nan : (positions : List Float) (lfe : List ℕ) → Fit positions → NoNan (pannerOf positions lfe)
+pub panner-no-nan : PannerNoNan
 unfolding pannerOf
 panner-no-nan positions lfe h = laid-no-nan (layoutOf positions lfe) (layout-sound positions lfe h)
 
@@ -224,7 +220,7 @@ shape-slots P outputs (hull r) h e =
     (each-flatMap P (λ ns. ns) (r .imag)
     (each-imply (SoundNeighbours (r .out)) (Each P) (λ ns g. each-imply (λ o. member o (r .out) ≡ true) P (λ o m. each-member P (r .out) o e m) ns (g .real)) (r .imag) (h .imag)))
 
-pub slots-active : (positions : List Float) (lfe : List ℕ) → Fit positions → Each (Active positions lfe) (usedSlots (layoutOf positions lfe .shape))
+pub slots-active : SlotsActive
 unfolding layoutOf slotsOf
 slots-active positions lfe h =
     let act = active positions lfe in
@@ -233,7 +229,7 @@ slots-active positions lfe h =
     (each-map (Active positions lfe) (λ s. s .slot) act (each-imply (ActiveSpeaker positions lfe) (λ s. Active positions lfe (s .slot)) (λ s g. g .at) act (active-each positions lfe h))))
 
 -- so an LFE slot is in no list of the layout
-pub lfe-unused : (positions : List Float) (lfe : List ℕ) (o : ℕ) → Fit positions → member o lfe ≡ true → member o (usedSlots (layoutOf positions lfe .shape)) ≡ false
+pub lfe-unused : LfeUnused
 lfe-unused positions lfe o h e =
     member-none o (usedSlots (layoutOf positions lfe .shape))
     (each-imply (Active positions lfe) (λ p. eqb p o ≡ false) (λ p a. ne-eqb p o (λ g. true≢false (sym e ∙ ap (λ (q : ℕ). member q lfe) (sym g) ∙ a .not-lfe))) (usedSlots (layoutOf positions lfe .shape)) (slots-active positions lfe h))

@@ -1,5 +1,5 @@
 -- Document 01, "Layout", and "The buyer's note on promises" ("a layout from open gives no NaN"): what is true of every layout that `new` makes.
--- `Sound` is proved by `layout-sound`, `NoNan` by `panner-no-nan`, `Active` by `slots-active` (proofs/Layouts.antt). Assumes nothing.
+-- The statements, at the end: `LayoutSound` is proved by `layout-sound`, `PannerNoNan` by `panner-no-nan`, `SlotsActive` by `slots-active`, `LfeUnused` by `lfe-unused` (proofs/Layouts.antt). Assumes nothing.
 use Prim.Native.Nat.{ℕ, _+_, _≤_, _<_}
 use mathlib.Core.Path.{_≡_}
 use mathlib.Core.Bool.{true, false, not}
@@ -19,7 +19,8 @@ use Rattle.hull.specs.Triplets.{Triplet}
 use Rattle.neighbours.specs.Search.{Distinct}
 use Rattle.panner.specs.declared.VbapPanner.{VbapPanner}
 use Rattle.panner.specs.Shape.{HullShape, Shape, silent, mono, planar, hull}
-use Rattle.layout.specs.Layout.{outputsOf}
+use Rattle.panner.specs.Malformed.{usedSlots}
+use Rattle.layout.specs.Layout.{outputsOf, layoutOf, pannerOf}
 
 -- ---- bounds of 32-bit values
 
@@ -28,7 +29,7 @@ pub record Within (b x : Float) : Type 0 where
   pub held : T (fits binary32 x)
   pub most : T (le (abs x) b)
 
--- pi and 2·pi in 32 bits, both rounded up
+-- pi and 2·pi in 32 bits, both rounded up: the bounds of a start and of a gap. Origin: std::f32::consts::PI and TAU.
 abbrev pub pi32 : Float
 pi32 = ofBits binary32 0x4049_0fdb
 
@@ -131,3 +132,24 @@ pub record NoNan (v : VbapPanner) : Type 0 where
   pub pairs : Each NumberPair (v .pairs)
   pub directions : Each Number (v .«pt_dir»)
   pub inverses : Each Number (v .inv)
+
+-- ---- the statements: of any positions in 32 bits, finite or not, and any LFE slots
+
+abbrev pub Fit : List Float → Type 0
+Fit positions = Each (λ v. T (fits binary32 v)) positions
+
+-- every layout is sound
+abbrev pub LayoutSound : Type 0
+LayoutSound = (positions : List Float) (lfe : List ℕ) → Fit positions → Sound (layoutOf positions lfe .outputs) (layoutOf positions lfe .shape)
+
+-- no float of its record is a NaN
+abbrev pub PannerNoNan : Type 0
+PannerNoNan = (positions : List Float) (lfe : List ℕ) → Fit positions → NoNan (pannerOf positions lfe)
+
+-- every slot that it names is active
+abbrev pub SlotsActive : Type 0
+SlotsActive = (positions : List Float) (lfe : List ℕ) → Fit positions → Each (Active positions lfe) (usedSlots (layoutOf positions lfe .shape))
+
+-- so it names no LFE slot
+abbrev pub LfeUnused : Type 0
+LfeUnused = (positions : List Float) (lfe : List ℕ) (o : ℕ) → Fit positions → member o lfe ≡ true → member o (usedSlots (layoutOf positions lfe .shape)) ≡ false

@@ -1,14 +1,13 @@
 -- NaN and the infinities follow from the steps: the sine and cosine of neither is a number. Assumes nothing.
-use mathlib.Core.Path.{_≡_}
-use mathlib.Core.Bool.{Bool}
 use lib.Ieee.{nan, inf, add, sub, rem}
 use Rattle.trig.specs.Sine.{remainder, quarter, reduced, mod4, sinOf, cosOf}
+use Rattle.trig.specs.Meaning.{SinOfNan, SinOfInf}
 use Rattle.trig.proofs.Turns.{sineBy-nan, cosineBy-nan}
 
-pub sinOf-nan : (sinOf nan ≡ nan) × (cosOf nan ≡ nan)
+pub sinOf-nan : SinOfNan
 unfolding sinOf cosOf reduced remainder rem sub add
 sinOf-nan = (sineBy-nan (mod4 (quarter nan)), cosineBy-nan (mod4 (quarter nan)))
 
-pub sinOf-inf : (s : Bool) → (sinOf (inf s) ≡ nan) × (cosOf (inf s) ≡ nan)
+pub sinOf-inf : SinOfInf
 unfolding sinOf cosOf reduced remainder rem sub add
 sinOf-inf s = (sineBy-nan (mod4 (quarter (inf s))), cosineBy-nan (mod4 (quarter (inf s))))

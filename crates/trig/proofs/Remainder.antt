@@ -5,12 +5,13 @@ use native.Mathlib.Nat.{le-trans, le-of-eq, le-of-lt, mul-pos, mul-assoc, mul-le
 use native.Mathlib.Omega.{arith}
 use mathlib.Core.Bool.{Bool, true, false, _&&_, _||_}
 use lib.Dec.{T, ltb, eqb, lit<, ltb→lt, eqb→eq}
-use lib.Ieee.{Float, nan, inf, fin, binary64, up, down, unlike, round, neg, div, rem, lt, le, fits, ofBits}
+use lib.Ieee.{Float, nan, inf, fin, binary64, up, down, unlike, round, div, rem, le, ofBits}
 use lib.Ieee.Fits.{down-pos}
 use lib.Ieee.Order.{round-mono}
 use Rattle.ieee.specs.Values.{abs, isFinite}
 use Rattle.trig.specs.Pi.{twoPi, halfPi}
 use Rattle.trig.specs.Sine.{4·0, remainder, quotient}
+use Rattle.trig.specs.Meaning.{RemainderInside}
 use Rattle.ieee.proofs.Remainder.{rem-inside}
 use Rattle.trig.proofs.Rounded.{abs-round}
 
@@ -19,7 +20,7 @@ abbrev N : ℕ
 N = 884279719003555
 
 -- ---- a value inside ±2·pi
-pub remainder-inside : (v : Float) → T (fits binary64 v) → lt v twoPi ≡ true → lt (neg twoPi) v ≡ true → v ≡ remainder v
+pub remainder-inside : RemainderInside
 unfolding remainder
 remainder-inside v p h k = rem-inside binary64 v twoPi p h k
 

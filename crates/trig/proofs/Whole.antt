@@ -10,9 +10,10 @@ use lib.Ieee.{Float, nan, inf, fin, up, down}
 use lib.Ieee.Fits.{down-pos}
 use Rattle.ieee.specs.Values.{isFinite}
 use Rattle.trig.specs.Sine.{nearestWhole, above, below, Nearest, mod4}
+use Rattle.trig.specs.Meaning.{NearestWholeNearest, NearestWholeOnly, Mod4Pos, Mod4Negsuc}
 
 -- ---- k − ½ ≤ q < k + ½
-pub nearestWhole-nearest : (q : Float) → T (isFinite q) → Nearest (nearestWhole q) q
+pub nearestWhole-nearest : NearestWholeNearest
 unfolding isFinite nearestWhole Nearest
 nearestWhole-nearest nan h = absurd h
 nearestWhole-nearest (inf s) h = absurd h
@@ -52,7 +53,7 @@ apart j k d a b h l = omega arith
 equal : (j k : ℕ) → j ≤ k → k ≤ j → j ≡ k
 equal j k h l = omega arith
 
-pub nearestWhole-only : (q : Float) (j k : ℤ) → Nearest j q → Nearest k q → j ≡ k
+pub nearestWhole-only : NearestWholeOnly
 unfolding Nearest
 nearestWhole-only nan j k h l = absurd h
 nearestWhole-only (inf s) j k h l = absurd h
@@ -74,11 +75,11 @@ nearestWhole-only (fin s m e) (negsuc j) (negsuc k) h l =
         go j k d a b h l = omega arith
 
 -- ---- k less its k mod 4 is a multiple of 4, and k mod 4 is below 4
-pub mod4-pos : (n : ℕ) → (mod4 (pos n) < 4) × (n ≡ 4 * (n / 4) + mod4 (pos n))
+pub mod4-pos : Mod4Pos
 unfolding mod4
 mod4-pos n = (omega arith, omega arith)
 
 -- of k = −(n + 1): (n + 1) + (k mod 4) is a multiple of 4
-pub mod4-negsuc : (n : ℕ) → (mod4 (negsuc n) < 4) × (suc n + mod4 (negsuc n) ≡ 4 * suc (n / 4))
+pub mod4-negsuc : Mod4Negsuc
 unfolding mod4
 mod4-negsuc n = (omega arith, omega arith)

@@ -1,3 +1,4 @@
 pub mod Pi
 pub mod Series
 pub mod Sine
+pub mod Meaning

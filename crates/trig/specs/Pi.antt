@@ -1,4 +1,4 @@
--- Document 01, "Number work": PI64 is the 64-bit float nearest pi; 2·pi and pi/2 are its double and half. Assumes nothing.
+-- Document 01, "Number work": PI64 is the 64-bit float nearest pi; 2·pi and pi/2 are its double and half: `PI64Nearest` and `TwoPiHalfPi` of Meaning.antt. Assumes nothing.
 use lib.Ieee.{Float, binary64, ofBits}
 
 -- 3.141592653589793

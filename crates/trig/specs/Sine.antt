@@ -24,11 +24,11 @@ C y = sumOf (mul binary64 y y) cosineCoefficients
 
 -- ---- r, q, k and y of v
 
--- 4: 4010_0000_0000_0000
+-- 4: 4010_0000_0000_0000. Origin: 2·pi ÷ (pi/2), the most that q can be.
 abbrev pub 4·0 : Float
 4·0 = fin false 1 (pos 2)
 
--- The remainder has the sign of the dividend; of a NaN and of an infinity it is NaN, and so is all that follows.
+-- The remainder has the sign of the dividend; of a NaN and of an infinity it is NaN, and so is all that follows (`SinOfNan`, `SinOfInf` of Meaning.antt). The sign and payload of that NaN are the program's: every choice is a NaN.
 unfoldable pub remainder : Float → Float
 remainder v = rem binary64 v twoPi
 
@@ -37,7 +37,7 @@ unfoldable pub quotient : Float → Float
 quotient v = div binary64 (remainder v) halfPi
 
 -- The whole number k with k − ½ ≤ q < k + ½. Of q = a: the whole part of a + ½; of q = −a: less the least whole number from a − ½ on.
--- `Nearest` below says it by the inequality, and Whole.antt that this k, and no other, meets it.
+-- `Nearest` below says it by the inequality; that this k, and no other, meets it is `NearestWholeNearest` and `NearestWholeOnly` of Meaning.antt.
 unfoldable pub nearestWhole : Float → ℤ
 nearestWhole nan = pos 0
 nearestWhole (inf s) = pos 0

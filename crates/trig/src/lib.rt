@@ -1,4 +1,4 @@
-// Sine and cosine by the steps of document 01, "Number work".
+// Sine and cosine by the steps of document 01, "Number work". Of a NaN or an infinity both are NaN: its sign and payload are the program's, every choice is a NaN, and it is a quiet one.
 ghost use mathlib.Core.Path.{_≡_};
 ghost use lib.Dec.{T};
 ghost use lib.Ieee.{binary64, mul, le, ofInt};

@@ -1,2 +1,3 @@
 pub mod Narrow
 pub mod Meaning
+pub mod Examples

@@ -13,7 +13,7 @@ ghost use Rattle.widths.specs.Narrow.{narrowOf};
 
 // ---- widths
 
-// x at the wider format: the same value.
+// x at the wider format: the same value. Of a NaN, here and below, the sign and payload are the program's: every choice is a NaN, and a quiet one (IEEE 754-2019, 6.2).
 pub fn widen(x: f32) -> f64
     ensures { λ r. ⌜ r ≡ x ⌝ }
 {

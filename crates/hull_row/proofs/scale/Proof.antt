@@ -4,7 +4,7 @@ use denote.Ref.{now}
 use lib.Ieee.{ofBits, binary32, div, lt}
 use Rattle.ieee.specs.Values.{1·0}
 use Rattle.root.specs.Root.{sqrtOf}
-use Rattle.planar_row.specs.PlanarRow.{leastPower}
+use Rattle.hull_row.specs.HullRow.{leastRowPower}
 use Rattle.hull_row.proofs.Places.{scaled-yes, scaled-no}
 use borrow.Author.Needs.{needs}
 use Rattle.hull_row.proofs.scale.Statement.{statement}
@@ -28,7 +28,7 @@ returns c =
     let o = now (c .before .before .before .before .before .before .before .before .before .args .out) in
     let e = c .before .before .before .before .before .before .power .ensures in
     let q = c .before .before .before .sqrt32 .ensures ∙ ap (sqrtOf binary32) e in
-    c .before .before .times .ensures ∙ scaled-yes o _ (ap (div binary32 1·0) q) (ap (lt leastPower) (sym e) ∙ c .before .before .before .before .before .if1 .taken)
+    c .before .before .times .ensures ∙ scaled-yes o _ (ap (div binary32 1·0) q) (ap (lt leastRowPower) (sym e) ∙ c .before .before .before .before .before .if1 .taken)
 
 same-length-2 : tie.Need-same-length-2
 same-length-2 c = search needs
@@ -36,7 +36,7 @@ same-length-2 c = search needs
 returns-2 : tie.Need-returns-2
 returns-2 c =
     let o = now (c .before .before .before .before .args .out) in
-    scaled-no o (ap (lt leastPower) (sym (c .before .power .ensures)) ∙ c .if1 .left)
+    scaled-no o (ap (lt leastRowPower) (sym (c .before .power .ensures)) ∙ c .if1 .left)
 
 pub scale-spec : {M : Type 1} → statement M
 scale-spec =

@@ -6,7 +6,7 @@ use Rattle.ieee.proofs.is_finite64.Tie as tie
 
 returns : tie.Need-returns
 unfolding div neg ofBits
-returns c = finite-between (c .args .x)
+returns c = finite-between (c .args .v)
 
 pub is-finite64-spec : {M : Type 1} → statement M
 is-finite64-spec = tie.close (tie.spec returns)

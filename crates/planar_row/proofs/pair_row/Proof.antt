@@ -6,7 +6,7 @@ use borrow.Author.Tests.{not-true, not-false}
 use borrow.Author.Needs.{needs}
 use lib.ListN.{length, take}
 use lib.Ieee.{lt}
-use Rattle.planar_row.specs.PlanarRow.{leastPower, Two}
+use Rattle.planar_row.specs.PlanarRow.{leastPairNorm, Two}
 use Rattle.planar_row.proofs.Branches.{row-silent, row-sounds, row-made}
 use Rattle.planar_row.proofs.pair_row.Statement.{statement}
 use Rattle.planar_row.proofs.pair_row.Tie as tie
@@ -19,7 +19,7 @@ returns c =
     let s = c .before .before .before .before .before in
     s .pre .1
     ∙ row-silent (length (s .args .row .now)) (s .args .el) (s .args .p) (record { ga = s .args .g .ga; gb = s .args .g .gb }) (take (s .args .num-slots) (s .args .slots))
-    (c .before .sqrt32 .ensures) (not-true (lt leastPower (c .before .sqrt32 .result)) (c .if1 .taken))
+    (c .before .sqrt32 .ensures) (not-true (lt leastPairNorm (c .before .sqrt32 .result)) (c .if1 .taken))
 
 put-requires : tie.Need-put-requires
 put-requires c κs = search needs
@@ -46,7 +46,7 @@ returns-2 c =
     let gains : Two = record { ga = s .args .g .ga; gb = s .args .g .gb } in
     let slots : List ℕ = take (s .args .num-slots) (s .args .slots) in
     row-made (length (s .args .row .now)) (s .args .el) (s .args .p) gains slots (t .before .sqrt32 .result) (s .pre .1) (a .put .ensures) (b .add-at .ensures) (w .planar-spread .ensures) (c .before .before .spread-over .ensures)
-    ∙ row-sounds (length (s .args .row .now)) (s .args .el) (s .args .p) gains slots (t .before .sqrt32 .ensures) (not-false (lt leastPower (t .before .sqrt32 .result)) (t .if1 .left))
+    ∙ row-sounds (length (s .args .row .now)) (s .args .el) (s .args .p) gains slots (t .before .sqrt32 .ensures) (not-false (lt leastPairNorm (t .before .sqrt32 .result)) (t .if1 .left))
 
 pub pair-row-spec : {M : Type 1} → statement M
 pair-row-spec =
