@@ -11,8 +11,7 @@ use lib.Ieee.{Float, binary64, sub, lt, le}
 use Rattle.lists.proofs.Collect.{foldl-snoc}
 use Rattle.lists.proofs.Tests.{cond-yes, cond-no}
 use Rattle.vector.specs.Vector.{Vector, Points}
-use Rattle.faces.specs.Faces.{tiny}
-use Rattle.closing.specs.Closing.{almost, greatest, passedOver, withPole, wins, better, candidates}
+use Rattle.closing.specs.Closing.{almost, greatest, passedOver, withPole, leastLead, wins, better, candidates}
 use Rattle.closing.specs.Flat.{bestIn}
 use Rattle.closing.specs.declared.Best.{Best}
 
@@ -51,23 +50,23 @@ module _ (pts : Points) (c : Vector) where
 
     -- whether c wins, by the best so far
     loses : Best → Bool
-    loses best = best .found && not (lt g (sub binary64 (best .nearest) tiny))
+    loses best = best .found && not (lt g (sub binary64 (best .nearest) leastLead))
 
     wins-best : {best : Best} (b : Option Vector) → best ≡ bestIn pts b → wins pts c b ≡ not (loses best)
     unfolding wins bestIn loses
     wins-best none e = sym (ap (λ (x : Best). not (loses x)) e)
     wins-best (some v) e =
-        ap (λ (x : Float). lt x (sub binary64 (greatest pts v) tiny)) (sym n) ∙ not-not (lt g (sub binary64 (greatest pts v) tiny)) ∙ sym (ap (λ (x : Best). not (loses x)) e)
+        ap (λ (x : Float). lt x (sub binary64 (greatest pts v) leastLead)) (sym n) ∙ not-not (lt g (sub binary64 (greatest pts v) leastLead)) ∙ sym (ap (λ (x : Best). not (loses x)) e)
 
     module _ {best : Best} (b : Option Vector) (e : best ≡ bestIn pts b) (h : le almost g ≡ false) where
       fresh : not (passedOver pts c) && wins pts c b ≡ not (loses best)
       fresh = ap (λ (t : Bool). not t && wins pts c b) (passed false h) ∙ wins-best b e
 
-      pub better-keeps : best .found && not (lt g (sub binary64 (best .nearest) tiny)) ≡ true → best ≡ bestIn pts (better pts b c)
+      pub better-keeps : best .found && not (lt g (sub binary64 (best .nearest) leastLead)) ≡ true → best ≡ bestIn pts (better pts b c)
       unfolding loses
       better-keeps k = e ∙ ap (bestIn pts) (sym (better-stays b (fresh ∙ ap not k)))
 
-      pub better-wins : best .found && not (lt g (sub binary64 (best .nearest) tiny)) ≡ false → record { found = true; c = c; nearest = g } ≡ bestIn pts (better pts b c)
+      pub better-wins : best .found && not (lt g (sub binary64 (best .nearest) leastLead)) ≡ false → record { found = true; c = c; nearest = g } ≡ bestIn pts (better pts b c)
       unfolding loses bestIn
       better-wins k =
           ap (λ (x : Float). record { found = true; c = c; nearest = x }) n ∙ ap (bestIn pts) (sym (better-takes b (fresh ∙ ap not k)))

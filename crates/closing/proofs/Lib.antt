@@ -1,4 +1,5 @@
-pub mod Points
 pub mod Candidates
+pub mod Lowered
+pub mod Points
 pub mod Stages
 pub mod Meaning

@@ -9,8 +9,8 @@ use lib.Ieee.{Float, inf, binary64, sub, neg, lt, le, ofBits}
 use Rattle.lists.specs.Lists.{last, any}
 use Rattle.ieee.specs.Values.{+0, 1·0}
 use Rattle.ieee.specs.Order.{maxOf}
+use Rattle.vector.specs.Limits.{maxImaginary}
 use Rattle.vector.specs.Vector.{Vector, Points, dotOf}
-use Rattle.faces.specs.Faces.{tiny}
 use Rattle.hull.specs.Triplets.{tripletsOf, closed}
 
 -- ---- poles and candidates
@@ -19,7 +19,7 @@ use Rattle.hull.specs.Triplets.{tripletsOf, closed}
 abbrev pub almost : Float
 almost = ofBits binary64 0x3fef_fffd_e721_0be9
 
--- the greatest dot product with the points
+-- the greatest dot product with the points. Origin of −∞, where there are none: vbap.rs line 384.
 unfoldable pub greatest : Points → Vector → Float
 greatest pts c = foldl maxOf (inf true) (map (λ p. dotOf p c) pts)
 
@@ -40,7 +40,7 @@ abbrev pub −h : Float
 abbrev pub vector : Float → Float → Float → Vector
 vector a b c = a ∷ b ∷ c ∷ []
 
--- Origin: vbap.rs line 369
+-- up and down. Origin of the numbers: vbap.rs lines 369 and 371
 abbrev pub poles : Points
 poles = vector +0 1·0 +0 ∷ vector +0 −1 +0 ∷ []
 
@@ -58,10 +58,14 @@ withPole pts c = cond (passedOver pts c) pts (pts ++ c ∷ [])
 unfoldable pub withPoles : Points → Points
 withPoles pts = foldl withPole pts poles
 
+-- 1e-9 in 64 bits. Origin: vbap.rs line 388; a later candidate wins only when its product is lower by more than this, so that of equal ones the first is taken.
+abbrev pub leastLead : Float
+leastLead = ofBits binary64 0x3e11_2e0b_e826_d695
+
 -- the candidate with the least greatest product; a later one wins only when its product is below the earlier's less 1e-9
 unfoldable pub wins : Points → Vector → Option Vector → Bool
 wins pts c none = true
-wins pts c (some b) = lt (greatest pts c) (sub binary64 (greatest pts b) tiny)
+wins pts c (some b) = lt (greatest pts c) (sub binary64 (greatest pts b) leastLead)
 
 unfoldable pub better : Points → Option Vector → Vector → Option Vector
 better pts best c = cond (not (passedOver pts c) && wins pts c best) (some c) best
@@ -78,10 +82,6 @@ onward f pts (some c) = f (pts ++ c ∷ [])
 unfoldable pub closing : ℕ → Points → List Points
 closing zero pts = pts ∷ []
 closing (suc n) pts = pts ∷ elim (closed pts) [ true ↦ [] | false ↦ onward (closing n) pts (candidateOf pts) ]
-
--- MAX_IMAGINARY, poles counted. Origin: vbap.rs line 60 and document 01.
-abbrev pub maxImaginary : ℕ
-maxImaginary = 14
 
 unfoldable pub stages : Points → List Points
 stages real = let pts = withPoles real in closing (maxImaginary - (length pts - length real)) pts

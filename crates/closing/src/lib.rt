@@ -11,6 +11,7 @@ ghost use Rattle.vector.specs.Vector.{Vector, pointsIn};
 ghost use Rattle.closing.specs.Closing.{greatest, passedOver, withPole, better, candidateOf};
 ghost use Rattle.closing.specs.Flat.{bestIn, closedIn};
 use hull::Hull;
+use vector::MAX_IMAGINARY;
 
 // How many imaginary points there are, poles counted; the hull of all points; whether a triplet list on the way had more than 80 entries.
 pub struct Closed {
@@ -26,14 +27,11 @@ struct Best {
     nearest: f64,
 }
 
-// Origin: vbap.rs line 60 and document 01; poles counted.
-const MAX_IMAGINARY: usize = 14;
-
 // 1 - 1e-6. Origin: vbap.rs lines 370 and 385; "almost there".
 const ALMOST: f64 = 0.999999;
 
 // Origin: vbap.rs line 388; a later candidate wins only by more than this.
-const TINY: f64 = 1e-9;
+const LEAST_LEAD: f64 = 1e-9;
 
 // 1 / the square root of 3. Origin: vbap.rs line 64.
 const H: f64 = 0.5773502691896258;
@@ -61,6 +59,7 @@ fn greatest(pts: &[f64; 162], n: usize, c: [f64; 3]) -> f64
     requires { ⌜ (n ≤ 54) × (length (now pts) ≡ 162) ⌝ }
     ensures { λ r. ⌜ r ≡ greatest (pointsIn n (now (pts .entry))) c ⌝ }
 {
+    // −∞. Origin: vbap.rs line 384
     let mut g = -1.0 / 0.0;
     let mut i = 0;
     while i < n {
@@ -110,7 +109,7 @@ fn better(pts: &[f64; 162], n: usize, best: Best, c: [f64; 3]) -> Best
     if ALMOST <= nearest {
         return best;
     }
-    if best.found & !(nearest < best.nearest - TINY) {
+    if best.found & !(nearest < best.nearest - LEAST_LEAD) {
         return best;
     }
     Best {
@@ -160,6 +159,7 @@ pub fn close(dir: &[f64; 120], n: usize) -> Closed
     ensures { λ r. ⌜ r ≡ closedIn (pointsIn n (now (dir .entry))) ⌝ }
 {
     let mut pts = with_room(dir);
+    // the poles. Origin: vbap.rs lines 369 and 371
     let top = with_pole(&mut pts, n, [0.0, 1.0, 0.0]);
     let mut m = with_pole(&mut pts, top, [0.0, -1.0, 0.0]);
     let mut hull = hull::hull_triplets(&pts, m);

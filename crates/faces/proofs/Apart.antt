@@ -20,7 +20,7 @@ use Rattle.bounds.proofs.Compare.{test-mag}
 use Rattle.margin.proofs.Scaled.{L}
 use Rattle.margin.proofs.Heights.{Three}
 use Rattle.margin.proofs.Apart.{well-over, well-under}
-use Rattle.faces.specs.Faces.{tiny, eps, others, rawNormal, height, allBelow, allAbove}
+use Rattle.faces.specs.Faces.{leastNormal, eps, others, rawNormal, height, allBelow, allAbove}
 use Rattle.faces.specs.Steps.{isOther, heightIn, planeOf, sidesOf, turnedBy, faceOf}
 use Rattle.faces.specs.Margin.{largest, margin, NearIn, levelIn}
 use Rattle.faces.specs.declared.Face.the-variants.{Skip}
@@ -69,17 +69,17 @@ margin-val : Val binary64 margin false (2 ^ 1058)
 unfolding ofBits
 margin-val = record { has = (refl, refl) }
 
-pub tiny-val : Val binary64 tiny false (unitsOf binary64 tiny)
+pub normal-val : Val binary64 leastNormal false (unitsOf binary64 leastNormal)
 unfolding ofBits
-tiny-val = record { has = (refl, refl) }
+normal-val = record { has = (refl, refl) }
 
 eps-val : Val binary64 eps false (unitsOf binary64 eps)
 unfolding ofBits
 eps-val = record { has = (refl, refl) }
 
-tiny-long : 2 ^ 1040 ≤ unitsOf binary64 tiny
+normal-long : 2 ^ 1040 ≤ unitsOf binary64 leastNormal
 unfolding ofBits
-tiny-long = lit≤ tt
+normal-long = lit≤ tt
 
 eps-short : unitsOf binary64 eps < 2 ^ 1051
 unfolding ofBits
@@ -125,18 +125,18 @@ module _ (n : ℕ) (flat : List Float) where
         none : (q : ℕ) → f (heightIn flat raw d q) ≡ false → p ≡ q → ⊥
         none q g s = let z : true ≡ false = sym t ∙ ap (λ (x : ℕ). f (heightIn flat raw d x)) s ∙ g in true≢false z
 
-    module _ (c : NearIn n flat) (long : lt (lengthOf raw) tiny ≡ false) (p : ℕ) (hp : p < n) where
+    module _ (c : NearIn n flat) (long : lt (lengthOf raw) leastNormal ≡ false) (p : ℕ) (hp : p < n) where
       over-stays : lt margin (heightIn flat raw d p) ≡ true → lt eps (heightIn flat unit e p) ≡ true
       unfolding heightIn rawNormal
       over-stays h =
           true-of (lt eps (heightIn flat unit e p))
-          (well-over (near-three c i hi) (near-three c j hj) (near-three c k hk) (near-three c p hp) margin-val tiny-val tiny-long eps-val eps-short (untrue (lt (lengthOf raw) tiny) long) (truth h))
+          (well-over (near-three c i hi) (near-three c j hj) (near-three c k hk) (near-three c p hp) margin-val normal-val normal-long eps-val eps-short (untrue (lt (lengthOf raw) leastNormal) long) (truth h))
 
       under-stays : lt (heightIn flat raw d p) (neg margin) ≡ true → lt (heightIn flat unit e p) (neg eps) ≡ true
       unfolding heightIn rawNormal
       under-stays h =
           true-of (lt (heightIn flat unit e p) (neg eps))
-          (well-under (near-three c i hi) (near-three c j hj) (near-three c k hk) (near-three c p hp) margin-val tiny-val tiny-long eps-val eps-short (untrue (lt (lengthOf raw) tiny) long) (truth h))
+          (well-under (near-three c i hi) (near-three c j hj) (near-three c k hk) (near-three c p hp) margin-val normal-val normal-long eps-val eps-short (untrue (lt (lengthOf raw) leastNormal) long) (truth h))
 
     -- no face, by the normal r before it is scaled and the distance y that goes with it
     abbrev Skips : Vector → Float → Type 0
@@ -144,7 +144,7 @@ module _ (n : ℕ) (flat : List Float) where
 
     skips : Skips raw d
     unfolding levelIn sidesOf allBelow allAbove turnedBy others
-    skips c over under a b g = by (lt (lengthOf raw) tiny) refl
+    skips c over under a b g = by (lt (lengthOf raw) leastNormal) refl
       where
         lower : (q : ℕ) → levelIn flat raw d q ≡ true → lt margin (heightIn flat raw d q) ≡ false
         lower q h = not-true _ (and-left (not (lt margin (heightIn flat raw d q))) (not (lt (heightIn flat raw d q) (neg margin))) h)
@@ -152,7 +152,7 @@ module _ (n : ℕ) (flat : List Float) where
         upper : (q : ℕ) → levelIn flat raw d q ≡ true → lt (heightIn flat raw d q) (neg margin) ≡ false
         upper q h = not-true _ (and-right (not (lt margin (heightIn flat raw d q))) (not (lt (heightIn flat raw d q) (neg margin))) h)
 
-        by : (t : Bool) → lt (lengthOf raw) tiny ≡ t → faceOf (pointsIn n flat) i j k ≡ Skip
+        by : (t : Bool) → lt (lengthOf raw) leastNormal ≡ t → faceOf (pointsIn n flat) i j k ≡ Skip
         by true h = face-thin n flat i j k hi hj hk h
         by false h =
             let f = planeOf unit e in

@@ -11,9 +11,9 @@ use Rattle.vector.specs.Vector.{Vector, Points, dotOf, crossOf, lessOf, overOf,
 
 -- ---- tolerances
 
--- 1e-9. Origin: vbap.rs lines 274 and 345; a normal or a determinant that counts as none.
-abbrev pub tiny : Float
-tiny = ofBits binary64 0x3e11_2e0b_e826_d695
+-- 1e-9. Origin: vbap.rs line 274; guards the division by a normal's length.
+abbrev pub leastNormal : Float
+leastNormal = ofBits binary64 0x3e11_2e0b_e826_d695
 
 -- EPS, 1e-7. Origin: vbap.rs line 263; how far a point may stand over a face's plane.
 abbrev pub eps : Float

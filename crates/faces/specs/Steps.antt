@@ -7,7 +7,7 @@ use lib.ListN.{length, getD}
 use lib.Ieee.{Float, nan, binary64, sub, neg, lt}
 use Rattle.lists.specs.Lists.{part}
 use Rattle.vector.specs.Vector.{Vector, Points, x, y, z, dotOf, negatedOf, lengthOf}
-use Rattle.faces.specs.Faces.{Plane, tiny, eps, leastDistance, point, others, rawNormal, planeThrough, allBelow, allAbove}
+use Rattle.faces.specs.Faces.{Plane, leastNormal, eps, leastDistance, point, others, rawNormal, planeThrough, allBelow, allAbove}
 use Rattle.faces.specs.declared.Sides.{Sides}
 use Rattle.faces.specs.declared.Face.{Face}
 use Rattle.faces.specs.declared.Face.the-variants.{Skip, Open, Outward}
@@ -48,4 +48,4 @@ faceOf pts i j k =
     let b = point pts j in
     let c = point pts k in
     let f = planeThrough a b c in
-    cond (lt (lengthOf (rawNormal a b c)) tiny) Skip (turnedBy (sidesOf pts (f .nrm) (f .d) (others (length pts) i j k)) (f .nrm) (f .d))
+    cond (lt (lengthOf (rawNormal a b c)) leastNormal) Skip (turnedBy (sidesOf pts (f .nrm) (f .d) (others (length pts) i j k)) (f .nrm) (f .d))

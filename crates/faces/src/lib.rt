@@ -1,4 +1,5 @@
 // The tests of a triple of points for a face of the hull, up to the distance of its plane.
+// Lengths of arrays: 40 speakers (document 01, refusal 2) and 14 imaginary points (vbap.rs line 60) are 54 points, of three numbers each: 162.
 ghost use mathlib.Core.Path.{_≡_};
 ghost use mathlib.Core.Bool.{true};
 ghost use Prim.Native.Nat.{_≤_, _<_};
@@ -9,8 +10,8 @@ ghost use Rattle.faces.specs.Steps.{isOther, pointIn, heightIn, besideOf
 ghost use Rattle.faces.specs.Margin.{Near, NearIn, levelIn};
 ghost use Rattle.faces.specs.declared.Face.the-variants.{Skip};
 
-// A normal that counts as none. Origin: vbap.rs line 274.
-const TINY: f64 = 1e-9;
+// Origin: vbap.rs line 274; guards the division by a normal's length.
+const LEAST_NORMAL: f64 = 1e-9;
 
 // How far a point may stand over a face's plane. Origin: vbap.rs line 263.
 pub const EPS: f64 = 1e-7;
@@ -148,7 +149,7 @@ fn is_near(c: f64) -> bool
     ieee::abs64(c) <= LARGEST
 }
 
-// Whether the first n points are near: their coordinates are finite and at most 2 in size.
+// Whether the first n points are near: their coordinates are finite and at most 2 in size. It promises what a true says and nothing of a false, on which no result rests: `face_test` answers the same with either, and takes longer without it.
 pub fn all_near(pts: &[f64; 162], n: usize) -> bool
     requires { ⌜ n ≤ 54 ⌝ }
     ensures { λ r. ⌜ (r ≡ true → NearIn n (now (pts .entry))) ⌝ }
@@ -204,7 +205,7 @@ pub fn face_test(pts: &[f64; 162], n: usize, near: bool, i: usize, j: usize, k: 
         return Face::Skip;
     }
     let nl = vector::length64(raw);
-    if nl < TINY {
+    if nl < LEAST_NORMAL {
         return Face::Skip;
     }
     let nrm = vector::over(raw, nl);

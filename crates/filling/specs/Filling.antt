@@ -9,11 +9,8 @@ use Rattle.lists.specs.Lists.{range, isEmpty, part}
 use Rattle.ieee.specs.Values.{+0}
 use Rattle.ieee.specs.Order.{maxOf}
 use Rattle.root.specs.Root.{sqrtOf}
+use Rattle.vector.specs.Limits.{maxImaginary}
 use Rattle.planar_row.specs.PlanarRow.{addAt, count32}
-
--- MAX_IMAGINARY. Origin: vbap.rs line 60 and document 01.
-abbrev pub maxImaginary : ℕ
-maxImaginary = 14
 
 -- ---- a gain to a real point's slot, or to an imaginary point's sum
 

@@ -7,6 +7,10 @@ ghost use lib.Dec.{leb};
 ghost use lib.ListN.{length, take};
 ghost use Rattle.lists.specs.Lists.{every};
 ghost use Rattle.filling.specs.Filling.{toReal, toImag, isReal, realPoints, imagPoints, addEach, sharedBy, sharedOut, placed};
+use vector::MAX_IMAGINARY;
+
+// The last place of an imaginary point's sum. Origin: vbap.rs line 560.
+const LAST: usize = MAX_IMAGINARY - 1;
 
 // ---- the points of a triplet
 
@@ -20,8 +24,8 @@ fn to_real(out: &mut [f32], slots: &[u8], n: usize, p: usize, g: f32)
     }
 }
 
-// The same to its sum where p is an imaginary point. Origin of 14: MAX_IMAGINARY, vbap.rs line 60.
-fn to_imag(imag: [f32; 14], n: usize, p: usize, g: f32) -> [f32; 14]
+// The same to its sum where p is an imaginary point.
+fn to_imag(imag: [f32; MAX_IMAGINARY], n: usize, p: usize, g: f32) -> [f32; MAX_IMAGINARY]
     ensures { λ r. ⌜ r ≡ toImag n imag p g ⌝ }
 {
     if p < n {
@@ -37,7 +41,7 @@ fn to_imag(imag: [f32; 14], n: usize, p: usize, g: f32) -> [f32; 14]
 fn at_most_13(k: usize) -> usize
     ensures { λ r. ⌜ r ≡ min k 13 ⌝ }
 {
-    if k < 13 { k } else { 13 }
+    if k < LAST { k } else { LAST }
 }
 
 // The gains of triplet t to its real points. Three point numbers a triplet.
@@ -52,12 +56,12 @@ fn real_points<'a>(out: &mut [f32], slots: &'a [u8], idx: &'a [u8], n: usize, t:
 }
 
 // The gains of triplet t to its imaginary points.
-fn imag_points(idx: &[u8], n: usize, t: usize, g: [f32; 3]) -> [f32; 14]
+fn imag_points(idx: &[u8], n: usize, t: usize, g: [f32; 3]) -> [f32; MAX_IMAGINARY]
     requires { ⌜ (t < 80) × (length (now idx) ≡ 240) ⌝ }
     ensures { λ r. ⌜ r ≡ imagPoints n (now (idx .entry)) t g ⌝ }
 {
     let at = t * 3;
-    let none = [0.0; 14];
+    let none = [0.0; MAX_IMAGINARY];
     let one = to_imag(none, n, idx[at] as usize, g[0]);
     let two = to_imag(one, n, idx[at + 1] as usize, g[1]);
     to_imag(two, n, idx[at + 2] as usize, g[2])
@@ -89,7 +93,13 @@ fn share(out: &mut [f32], nbrs: &[u8], n: usize, g: f32)
 }
 
 // Those of the first n imaginary points.
-fn share_out<'a>(out: &mut [f32], counts: &'a [u8], nbrs: &'a [u8], imag: [f32; 14], n: usize)
+fn share_out<'a>(
+    out: &mut [f32],
+    counts: &'a [u8],
+    nbrs: &'a [u8],
+    imag: [f32; MAX_IMAGINARY],
+    n: usize,
+)
     requires { ⌜ (n ≤ 14) × (length (now counts) ≡ 14) × (length (now nbrs) ≡ 560) × (every (λ x. leb x 40) (now counts) ≡ true) ⌝ }
     ensures { λ _. ⌜ now (out .exit) ≡ sharedOut (now (counts .entry)) (now (nbrs .entry)) imag n (now (out .entry)) ⌝ }
 {

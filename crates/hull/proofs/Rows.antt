@@ -5,10 +5,10 @@ use mathlib.Core.List.{List, [], _∷_}
 use lib.Ieee.{Float, binary64, div}
 use Rattle.lists.specs.Lists.{part}
 use Rattle.widths.specs.Narrow.{narrowOf}
-use Rattle.vector.specs.Vector.{Vector, x, y, z, dotOf, crossOf}
+use Rattle.vector.specs.Vector.{Vector, x, y, z, dotOf, crossOf, determinantOf, inverseRowsOf}
+use Rattle.vector.proofs.Rows.{determinant-dot}
 use Rattle.faces.specs.Steps.{pointIn}
 use Rattle.faces.proofs.Reading.{read-dot, read-cross}
-use Rattle.hull.specs.Triplets.{determinantOf}
 use Rattle.hull.specs.Steps.{rowOf, inverseBy}
 
 pub row-computed : (r : Vector) (det : Float) {p q s : Float} → p ≡ narrowOf (div binary64 (x r) det) → q ≡ narrowOf (div binary64 (y r) det) → s ≡ narrowOf (div binary64 (z r) det) → p ∷ q ∷ s ∷ [] ≡ rowOf r det
@@ -21,14 +21,13 @@ rows-inverse : (a b c : Vector) (det : Float)
     let r1 = rowOf (crossOf c a) det in
     let r2 = rowOf (crossOf a b) det in
     x r0 ∷ y r0 ∷ z r0 ∷ x r1 ∷ y r1 ∷ z r1 ∷ x r2 ∷ y r2 ∷ z r2 ∷ [] ≡ inverseBy a b c det
-unfolding rowOf inverseBy crossOf
+unfolding rowOf inverseBy inverseRowsOf crossOf
 rows-inverse a b c det = refl
 
 -- a, b and c are the points as they are read
 module _ (flat : List Float) (i j k : ℕ) {a b c : Vector} (ea : a ≡ pointIn flat i) (eb : b ≡ pointIn flat j) (ec : c ≡ pointIn flat k) where
   pub determinant-read : {u : Vector} {d : Float} → u ≡ crossOf b c → d ≡ dotOf a u → d ≡ determinantOf (part 3 flat i) (part 3 flat j) (part 3 flat k)
-  unfolding determinantOf
-  determinant-read eu ed = cc (read-cross flat j k, read-dot flat i (crossOf (part 3 flat j) (part 3 flat k)))
+  determinant-read eu ed = cc (read-cross flat j k, read-dot flat i (crossOf (part 3 flat j) (part 3 flat k)), determinant-dot (part 3 flat i) (part 3 flat j) (part 3 flat k))
 
   pub inverse-read : (det : Float) {u v w : Vector} {r0 r1 r2 : List Float} → u ≡ crossOf b c → r0 ≡ rowOf u det → v ≡ crossOf c a → r1 ≡ rowOf v det → w ≡ crossOf a b → r2 ≡ rowOf w det
       → x r0 ∷ y r0 ∷ z r0 ∷ x r1 ∷ y r1 ∷ z r1 ∷ x r2 ∷ y r2 ∷ z r2 ∷ [] ≡ inverseBy (part 3 flat i) (part 3 flat j) (part 3 flat k) det

@@ -8,14 +8,14 @@ use lib.Ieee.{Float, lt}
 use lib.Seq.{sets}
 use Rattle.lists.specs.Lists.{part}
 use Rattle.ieee.specs.Values.{abs}
-use Rattle.vector.specs.Vector.{pointsIn}
+use Rattle.vector.specs.Vector.{pointsIn, determinantOf}
 use Rattle.vector.proofs.Points.{point-at}
-use Rattle.faces.specs.Faces.{tiny, point}
+use Rattle.faces.specs.Faces.{point}
 use Rattle.faces.specs.Steps.{faceOf}
 use Rattle.faces.specs.declared.Face.{Face}
 use Rattle.faces.specs.declared.Face.the-variants.{Skip, Open, Outward}
 use Rattle.fan.specs.Steps.{fanTest}
-use Rattle.hull.specs.Triplets.{Verdict, skip, open-hull, keep, determinantOf, inverseOf, verdict}
+use Rattle.hull.specs.Triplets.{Verdict, skip, open-hull, keep, leastDeterminant, inverseOf, verdict}
 use Rattle.hull.specs.Steps.{inverseBy, inversesWith, putOf}
 use Rattle.hull.specs.declared.Hull.{Hull}
 use Rattle.hull.proofs.Laid.{laidOf, laid-skip, laid-open, laid-keep, put-full, put-more}
@@ -61,10 +61,10 @@ module _ (n : ℕ) (flat : List Float) (i j k : ℕ) (h : Hull) (inv : Third n f
 
       -- c and s are the determinant and its size
       module _ (et : b ≡ true) {c s : Float} (ec : c ≡ det) (es : s ≡ abs c) where
-        pub turn-small : lt s tiny ≡ true → Third n flat i j (k + 1) h
+        pub turn-small : lt s leastDeterminant ≡ true → Third n flat i j (k + 1) h
         turn-small e = skipped (verdict-small (pointsIn n flat) i j k p q r d (sym ef ∙ eo) (sym eb ∙ et) (rw (same-det, ← ec, ← es) e))
 
-        module _ (el : lt s tiny ≡ false) where
+        module _ (el : lt s leastDeterminant ≡ false) where
           kept : putOf h i j k (inverseBy (part 3 flat i) (part 3 flat j) (part 3 flat k) c) ≡ laidOf n (at-third (verdict (pointsIn n flat)) n i j (k + 1))
           kept =
               rw (ec, inv .4, ← same-inverse)

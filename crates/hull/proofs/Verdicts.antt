@@ -11,14 +11,14 @@ use Rattle.lists.specs.Lists.{range, between}
 use Rattle.lists.proofs.Ranges.{range-none, range-snoc, between-none, between-snoc}
 use Rattle.lists.proofs.Collect.{map-snoc, flatMap-snoc}
 use Rattle.ieee.specs.Values.{abs}
-use Rattle.vector.specs.Vector.{Points, x, y, z, pointsIn, dotOf, overOf, negatedOf, lengthOf}
+use Rattle.vector.specs.Vector.{Points, x, y, z, pointsIn, dotOf, determinantOf, overOf, negatedOf, lengthOf}
 use Rattle.vector.proofs.Points.{length-points}
-use Rattle.faces.specs.Faces.{tiny, leastDistance, point, others, rawNormal, planeThrough, allBelow, allAbove, outward}
+use Rattle.faces.specs.Faces.{leastNormal, leastDistance, point, others, rawNormal, planeThrough, allBelow, allAbove, outward}
 use Rattle.faces.specs.Steps.{planeOf, sidesOf, facing, turnedBy, faceOf}
 use Rattle.faces.specs.declared.Face.{Face}
 use Rattle.faces.specs.declared.Face.the-variants.{Skip, Open, Outward}
 use Rattle.fan.specs.Steps.{fanTest}
-use Rattle.hull.specs.Triplets.{Triplet, Verdict, skip, open-hull, keep, determinantOf, inverseOf, verdictBy, verdict, verdicts}
+use Rattle.hull.specs.Triplets.{Triplet, Verdict, skip, open-hull, keep, leastDeterminant, inverseOf, verdictBy, verdict, verdicts}
 
 -- ---- the verdict by its tests
 
@@ -32,7 +32,7 @@ module _ (pts : Points) (i j k : ℕ) where
   unfoldable byFace : Face → Verdict
   byFace Skip = skip
   byFace Open = open-hull
-  byFace (Outward a b c d) = cond (not (fanTest pts i j k (a ∷ b ∷ c ∷ []) d)) skip (cond (lt (abs determinant) tiny) skip (keep tripletAt))
+  byFace (Outward a b c d) = cond (not (fanTest pts i j k (a ∷ b ∷ c ∷ []) d)) skip (cond (lt (abs determinant) leastDeterminant) skip (keep tripletAt))
 
   outer : (a b c d : Float) → verdictBy pts i j k (planeOf (a ∷ b ∷ c ∷ []) d) ≡ byFace (facing (a ∷ b ∷ c ∷ []) d)
   unfolding verdictBy facing fanTest byFace
@@ -64,7 +64,7 @@ module _ (pts : Points) (i j k : ℕ) where
       let ps = others (length pts) i j k in
       let below = allBelow pts f ps in
       let above = allAbove pts f ps in
-      thin (lt l tiny)
+      thin (lt l leastNormal)
       (cond (not (below || above)) skip (verdictBy pts i j k (outward below f)))
       (turnedBy (record { below = below; above = above }) (f .nrm) (f .d))
       (turned below above (div binary64 (x r) l) (div binary64 (y r) l) (div binary64 (z r) l) (f .d))
@@ -83,11 +83,11 @@ module _ (pts : Points) (i j k : ℕ) where
     unfolding byFace
     verdict-out e = verdict-face ∙ ap byFace f ∙ rw e refl
 
-    pub verdict-small : fanTest pts i j k (a ∷ b ∷ c ∷ []) d ≡ true → lt (abs determinant) tiny ≡ true → verdict pts i j k ≡ skip
+    pub verdict-small : fanTest pts i j k (a ∷ b ∷ c ∷ []) d ≡ true → lt (abs determinant) leastDeterminant ≡ true → verdict pts i j k ≡ skip
     unfolding byFace
     verdict-small e g = verdict-face ∙ ap byFace f ∙ rw (e, g) refl
 
-    pub verdict-keep : fanTest pts i j k (a ∷ b ∷ c ∷ []) d ≡ true → lt (abs determinant) tiny ≡ false → verdict pts i j k ≡ keep tripletAt
+    pub verdict-keep : fanTest pts i j k (a ∷ b ∷ c ∷ []) d ≡ true → lt (abs determinant) leastDeterminant ≡ false → verdict pts i j k ≡ keep tripletAt
     unfolding byFace
     verdict-keep e g = verdict-face ∙ ap byFace f ∙ rw (e, g) refl
 
@@ -101,7 +101,7 @@ module _ (pts : Points) (i j k : ℕ) where
   unfolding byFace
   own Skip t e = cc
   own Open t e = cc
-  own (Outward a b c d) t e = chosen (not (fanTest pts i j k (a ∷ b ∷ c ∷ []) d)) (lt (abs determinant) tiny) t e
+  own (Outward a b c d) t e = chosen (not (fanTest pts i j k (a ∷ b ∷ c ∷ []) d)) (lt (abs determinant) leastDeterminant) t e
 
   pub verdict-own : (t : Triplet) → verdict pts i j k ≡ keep t → t ≡ tripletAt
   verdict-own t e = own (faceOf pts i j k) t (sym verdict-face ∙ e)

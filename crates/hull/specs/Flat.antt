@@ -14,7 +14,7 @@ use Rattle.hull.specs.declared.Hull.{Hull}
 unfoldable pub numbersOf : List Triplet → List ℕ
 numbersOf l = flatMap (λ t. t .i ∷ t .j ∷ t .k ∷ []) l
 
--- entry e of each triplet's inverse, in 80 places
+-- entry e of each triplet's inverse, in 80 places. Origin of 80: document 01, refusal 4.
 unfoldable pub entriesOf : List Triplet → ℕ → List Float
 entriesOf l e = filled 80 +0 (map (λ t. getD (t .inv) e nan) l)
 
@@ -22,7 +22,7 @@ entriesOf l e = filled 80 +0 (map (λ t. getD (t .inv) e nan) l)
 unfoldable pub inversesOf : List Triplet → List Float
 inversesOf l = flatMap (entriesOf l) (range 9)
 
--- the first 80 triplets laid flat, whether there are more, and whether they tile the sphere
+-- the first 80 triplets laid flat, three point numbers each in 240 places, whether there are more, and whether they tile the sphere
 unfoldable pub hullOf : Points → Hull
 hullOf pts =
     let l = take 80 (tripletsOf pts) in

@@ -2,16 +2,16 @@
 -- A point is a vector in 64 bits; points are told by their numbers in a list, the real ones first. Assumes nothing.
 use Prim.Native.Nat.{ℕ, suc}
 use mathlib.Core.Bool.{Bool, true, false, _&&_, _||_, not, cond}
-use mathlib.Core.List.{List, _++_, map, flatMap}
+use mathlib.Core.List.{List, map, flatMap}
 use mathlib.Core.Option.{Option, none, some}
 use lib.Dec.{leb}
 use lib.ListN.{length}
-use lib.Ieee.{Float, binary64, div, lt}
+use lib.Ieee.{Float, binary64, div, lt, ofBits}
 use Rattle.lists.specs.Lists.{range, between, collect, any, isEmpty}
 use Rattle.ieee.specs.Values.{abs}
 use Rattle.widths.specs.Narrow.{narrowOf}
-use Rattle.vector.specs.Vector.{Vector, Points, dotOf, crossOf, lengthOf}
-use Rattle.faces.specs.Faces.{tiny, leastDistance, Plane, point, others, rawNormal, planeThrough, allBelow, allAbove, outward}
+use Rattle.vector.specs.Vector.{Vector, Points, determinantOf, inverseRowsOf, lengthOf}
+use Rattle.faces.specs.Faces.{leastNormal, leastDistance, Plane, point, others, rawNormal, planeThrough, allBelow, allAbove, outward}
 use Rattle.fan.specs.Fan.{coplanar, inFan}
 
 -- ---- a triple's tests, in their order
@@ -29,12 +29,13 @@ pub data Verdict : Type 0 where
   open-hull : Verdict
   keep : Triplet → Verdict
 
--- 5: the determinant is at least 1e-9
-unfoldable pub determinantOf : Vector → Vector → Vector → Float
-determinantOf a b c = dotOf a (crossOf b c)
+-- 5: the determinant is at least 1e-9. Origin: vbap.rs line 345; guards the division by it.
+abbrev pub leastDeterminant : Float
+leastDeterminant = ofBits binary64 0x3e11_2e0b_e826_d695
 
+-- the rows of the inverse of the matrix with the columns a, b and c, over the determinant, narrowed
 unfoldable pub inverseOf : Vector → Vector → Vector → List Float
-inverseOf a b c = map (λ r. narrowOf (div binary64 r (determinantOf a b c))) (crossOf b c ++ crossOf c a ++ crossOf a b)
+inverseOf a b c = map (λ r. narrowOf (div binary64 r (determinantOf a b c))) (inverseRowsOf a b c)
 
 -- by the outward plane f. 3: the plane is at least 1e-4 from the origin, on the outer side; else the hull is open. Then 4 and 5
 unfoldable pub verdictBy : Points → ℕ → ℕ → ℕ → Plane → Verdict
@@ -45,7 +46,7 @@ verdictBy pts p q r f =
     let flat = coplanar pts f (others (length pts) p q r) in
     cond (lt (f .d) leastDistance) open-hull
     (cond (not (inFan pts (f .nrm) p q r flat)) skip
-    (cond (lt (abs (determinantOf a b c)) tiny) skip
+    (cond (lt (abs (determinantOf a b c)) leastDeterminant) skip
     (keep (record { i = p; j = q; k = r; inv = inverseOf a b c }))))
 
 -- 1: the normal of the plane through the triple, before it is scaled, is at least 1e-9 long. 2: no other point above the plane, or none below it. Then by the plane turned outward
@@ -56,7 +57,7 @@ verdict pts i j k =
     let c = point pts k in
     let f = planeThrough a b c in
     let ps = others (length pts) i j k in
-    cond (lt (lengthOf (rawNormal a b c)) tiny) skip
+    cond (lt (lengthOf (rawNormal a b c)) leastNormal) skip
     (cond (not (allBelow pts f ps || allAbove pts f ps)) skip
     (verdictBy pts i j k (outward (allBelow pts f ps) f)))
 
@@ -77,7 +78,7 @@ opens skip = false
 opens open-hull = true
 opens (keep t) = false
 
--- the kept triplets, and whether the hull is closed: four points or more, no triple that opens it, some triplet
+-- the kept triplets, and whether the hull is closed: four points or more (origin of 4: vbap.rs line 264), no triple that opens it, some triplet
 unfoldable pub tripletsOf : Points → List Triplet
 tripletsOf pts = collect kept (verdicts pts)
 

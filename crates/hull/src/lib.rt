@@ -1,17 +1,17 @@
 // The faces of the convex hull of points about the origin, as triplets of point numbers with the inverse of their matrix.
+// Lengths of arrays: 40 speakers (document 01, refusal 2) and 14 imaginary points (vbap.rs line 60) are 54 points, of three numbers each: 162. 80 triplets (document 01, refusal 4) have 3 point numbers and 9 inverse entries each: 240 and 720.
 ghost use mathlib.Core.Path.{_≡_};
 ghost use mathlib.Core.List.{[], _∷_};
 ghost use Prim.Native.Nat.{_*_, _≤_, _<_};
 ghost use lib.Seq.{sets};
 ghost use Rattle.lists.specs.Lists.{part};
-ghost use Rattle.vector.specs.Vector.{pointsIn};
-ghost use Rattle.hull.specs.Triplets.{determinantOf};
+ghost use Rattle.vector.specs.Vector.{pointsIn, determinantOf};
 ghost use Rattle.hull.specs.Steps.{rowOf, inverseBy, inversesWith};
 ghost use Rattle.hull.specs.Flat.{hullOf};
 use faces::Face;
 
-// A determinant that counts as none. Origin: vbap.rs line 345.
-const TINY: f64 = 1e-9;
+// Origin: vbap.rs line 345; guards the division by a triplet's determinant.
+const LEAST_DETERMINANT: f64 = 1e-9;
 
 // The triplets of a hull laid flat (the source's `tris`), whether there were more than 80, and whether they tile the sphere (the source's `tiled`).
 pub struct Hull {
@@ -100,6 +100,7 @@ pub fn hull_triplets(pts: &[f64; 162], n: usize) -> Hull
         inv: [0.0; 720],
         count: 0,
         over: false,
+        // Origin of 4: vbap.rs line 264
         enclosed: 4 <= n,
     };
     'first: for i in 0..n {
@@ -120,7 +121,7 @@ pub fn hull_triplets(pts: &[f64; 162], n: usize) -> Hull
                     }
                 }
                 let det = determinant(pts, i, j, k);
-                if ieee::abs64(det) < TINY {
+                if ieee::abs64(det) < LEAST_DETERMINANT {
                     continue 'third;
                 }
                 let t = h.count;

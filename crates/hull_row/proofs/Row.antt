@@ -17,7 +17,8 @@ use Rattle.panner.specs.declared.Kind.the-variants.{Hull}
 use Rattle.panner.specs.declared.VbapPanner.{VbapPanner}
 use Rattle.panner.specs.Panner.{tripletAt, neighboursAt, hullIn, shapeIn}
 use Rattle.greatest.specs.Greatest.{firstGreatest}
-use Rattle.filling.specs.Filling.{maxImaginary, toReal, toImag, realPoints, imagPoints, addEach, sharedBy, sharedAt, sharedOut, placed}
+use Rattle.vector.specs.Limits.{maxImaginary}
+use Rattle.filling.specs.Filling.{toReal, toImag, realPoints, imagPoints, addEach, sharedBy, sharedAt, sharedOut, placed}
 use Rattle.filling.proofs.Folds.{fold-alike}
 use Rattle.hull_row.specs.HullRow.{aimed, nearestRow, Filling, give, filling, shared, scaled, tripletRow, rowBy, hullRow}
 use Rattle.hull_row.specs.Steps.{inverseAt, gainAt, gainsAt, leastsOf, nearestIn}

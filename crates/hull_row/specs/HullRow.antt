@@ -17,7 +17,7 @@ use Rattle.hull.specs.Triplets.{Triplet}
 use Rattle.panner.specs.Shape.{HullShape}
 use Rattle.planar_row.specs.PlanarRow.{addAt, count32}
 use Rattle.greatest.specs.Greatest.{firstGreatest}
-use Rattle.filling.specs.Filling.{maxImaginary}
+use Rattle.vector.specs.Limits.{maxImaginary}
 
 -- ---- hull: the triplet whose smallest gain is greatest, the earlier of equals
 

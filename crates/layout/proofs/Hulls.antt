@@ -9,7 +9,7 @@ use lib.Dec.{eqb, ltb, leb}
 use lib.ListN.{length, getD, length-append}
 use Rattle.lists.specs.Lists.{every, any, last}
 use Rattle.lists.proofs.Tests.{every-append, every-snoc, every-at, neither}
-use Rattle.vector.specs.Vector.{Points, crossOf}
+use Rattle.vector.specs.Vector.{Points, inverseRowsOf}
 use Rattle.hull.specs.Triplets.{Triplet, tripletsOf, inverseOf}
 use Rattle.hull.proofs.Meaning.{kept-meaning}
 use Rattle.hull.proofs.Verdicts.{verdict-own}
@@ -52,7 +52,7 @@ module _ (pts : Points) where
 
   -- an inverse has nine entries
   pub inverses-nine : every (λ t. eqb (length (t .inv)) 9) (tripletsOf pts) ≡ true
-  unfolding inverseOf crossOf
+  unfolding inverseOf inverseRowsOf
   inverses-nine =
       every-members (λ t. eqb (length (t .inv)) 9) (tripletsOf pts)
       (λ t m.

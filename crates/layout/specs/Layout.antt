@@ -76,7 +76,7 @@ shapeOf (s ∷ (t ∷ l)) =
 unfoldable pub layoutOf : List Float → List ℕ → Layout
 layoutOf positions lfe = record { outputs = outputsOf positions; shape = shapeOf (active positions lfe) }
 
--- ---- refusals 1, 2 and 4, in rising order; 0 is accepted. (3 belongs to open.)
+-- ---- refusals 1, 2 and 4, in rising order; 0 is accepted. (3 belongs to open.) Origin of 3 numbers, 40 positions and the numbers: document 01, "Returned numbers".
 
 -- a triplet list built on the way has more than 80 entries
 unfoldable pub tooManyTriplets : List Speaker → Bool

@@ -1,4 +1,5 @@
 // `VbapPanner::new`: from positions to the record.
+// Lengths of arrays: those of crate panner's record, whose origins stand there.
 ghost use mathlib.Core.Path.{_≡_};
 ghost use mathlib.Core.List.{[], map};
 ghost use Prim.Native.Nat.{_+_, _*_, _≤_, _<_};

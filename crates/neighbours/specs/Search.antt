@@ -9,6 +9,8 @@ use Rattle.neighbours.specs.Neighbours.{Reach}
 use Rattle.neighbours.specs.declared.Counts.{Counts}
 use Rattle.neighbours.specs.declared.Found.{Found}
 
+-- Origin of the bounds: 40 slots and speakers (document 01, refusal 2), 14 imaginary points (vbap.rs line 60), 54 points in all; 80 triplets (refusal 4), whose numbers are 240.
+
 -- no element twice
 abbrev pub Distinct : List ℕ → Type 0
 Distinct [] = Unit

@@ -9,7 +9,7 @@ use Rattle.panner.specs.Panner.{layoutIn}
 use Rattle.panner.specs.declared.VbapPanner.{VbapPanner}
 use Rattle.panner.specs.declared.Outputs.{Outputs}
 
--- counts, tested in every kind
+-- counts, tested in every kind. Origin of the bounds: document 01, "Returned numbers", 11.
 unfoldable pub countsOver : VbapPanner → Bool
 countsOver v =
     ltb 40 (v .«num_outputs») || ltb 40 (v .«num_real») || ltb 40 (v .«num_pairs») || ltb 40 (v .«num_slots»)

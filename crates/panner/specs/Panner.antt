@@ -49,7 +49,7 @@ hullIn (mono i) = noHull
 hullIn (planar ps ss) = noHull
 hullIn (hull h) = h
 
--- ---- a layout laid flat
+-- ---- a layout laid flat. Origin of 40, 80 and 14: document 01, "Returned numbers", 11; 120 is three numbers for each of 40, 240 three for each of 80.
 
 unfoldable pub laid : Layout → VbapPanner
 laid l =

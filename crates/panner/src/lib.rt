@@ -1,4 +1,5 @@
 // A layout by value: the record of a panner, and the test of a record made by hand.
+// Lengths of arrays: 40 outputs, pairs, planar slots, real points and neighbours of one, 80 triplets and 14 imaginary points (document 01, "Returned numbers", 11). Three numbers a direction are 120; 3 point numbers and 9 inverse entries a triplet, 240 and 720; 14 lists of 40 neighbours, 560.
 ghost use mathlib.Core.Path.{_≡_};
 ghost use mathlib.Core.Bool.{true, _||_};
 ghost use mathlib.Core.List.{[], _∷_, flatMap};
@@ -18,7 +19,7 @@ pub enum Kind {
 }
 
 // The panner of the source (document 01: a layout). Of each array the first places are used, as many as its count says.
-// Slots, point numbers and counts are bytes: none is above 240.
+// Slots, point numbers and counts are bytes. In a record that `malformed` accepts no count is above 80, and of the numbers that its kind and counts reach no slot is above 39 and no point above 53.
 pub struct VbapPanner {
     pub num_outputs: u8,
     pub kind: Kind,

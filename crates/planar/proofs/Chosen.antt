@@ -16,18 +16,18 @@ use Rattle.order.specs.declared.Spot.{Spot}
 use Rattle.planar.specs.declared.Law.{Law}
 use Rattle.planar.specs.declared.Law.the-variants.{Inverse, Crossfade}
 use Rattle.planar.specs.declared.Joined.the-variants.{Coincident, Pair}
-use Rattle.planar.specs.Planar.{tiny, coincident, maxVbapGap, gapAt, inverseLaw, lawOf, pairOf}
+use Rattle.planar.specs.Planar.{leastSecondGap, leastPairDeterminant, coincident, maxVbapGap, gapAt, inverseLaw, lawOf, pairOf}
 use Rattle.planar.specs.Arrays.{slotFits, joinedOf}
 
 module _ (m i : ℕ) (azA azB : Float) where
   abbrev plainGap : Float
   plainGap = remEuclidOf binary64 (sub binary64 azB azA) twoPi
 
-  pub gap-round : eqb m 2 && eqb i 1 && lt plainGap tiny ≡ true → twoPi ≡ gapAt m i azA azB
+  pub gap-round : eqb m 2 && eqb i 1 && lt plainGap leastSecondGap ≡ true → twoPi ≡ gapAt m i azA azB
   unfolding gapAt
   gap-round h = sym (cond-yes twoPi plainGap h)
 
-  pub gap-plain : eqb m 2 && eqb i 1 && lt plainGap tiny ≡ false → plainGap ≡ gapAt m i azA azB
+  pub gap-plain : eqb m 2 && eqb i 1 && lt plainGap leastSecondGap ≡ false → plainGap ≡ gapAt m i azA azB
   unfolding gapAt
   gap-plain h = sym (cond-no twoPi plainGap h)
 
@@ -39,12 +39,12 @@ module _ (ax az bx bz : Float) where
   abbrev inverse : Law
   inverse = Inverse (entry bz) (entry (neg bx)) (entry (neg az)) (entry ax)
 
-  pub law-flat : lt (abs (minor ax bz bx az)) tiny ≡ true → Crossfade ≡ inverseLaw ax az bx bz
-  unfolding inverseLaw
+  pub law-flat : lt (abs (minor ax bz bx az)) leastPairDeterminant ≡ true → Crossfade ≡ inverseLaw ax az bx bz
+  unfolding inverseLaw minor
   law-flat h = sym (cond-yes Crossfade inverse h)
 
-  pub law-inverse : lt (abs (minor ax bz bx az)) tiny ≡ false → inverse ≡ inverseLaw ax az bx bz
-  unfolding inverseLaw
+  pub law-inverse : lt (abs (minor ax bz bx az)) leastPairDeterminant ≡ false → inverse ≡ inverseLaw ax az bx bz
+  unfolding inverseLaw minor
   law-inverse h = sym (cond-no Crossfade inverse h)
 
 module _ (azA azB gap : Float) where

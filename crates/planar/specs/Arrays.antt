@@ -1,4 +1,4 @@
--- Document 01, "Layout", the paragraph "Planar": the pairs in an array of 40 places, with their count. Unused places hold 0, +0 or the crossfade. Assumes nothing.
+-- Document 01, "Layout", the paragraph "Planar": the pairs in an array of 40 places, with their count. Unused places hold 0, +0 or the crossfade. Origin of 40: document 01, refusal 2. Assumes nothing.
 use Prim.Native.Nat.{ℕ}
 use mathlib.Core.Path.{_≡_}
 use mathlib.Core.Bool.{Bool}
@@ -23,7 +23,7 @@ use Rattle.planar.specs.Planar.{pairsOf, noPair}
 abbrev pub noSpot : Spot
 noSpot = record { angle = +0; number = 0 }
 
--- the spot's number fits the 8 bits of a slot
+-- the spot's number fits the 8 bits of a slot. Origin of 256: 2 ^ 8.
 unfoldable pub slotFits : Spot → Bool
 slotFits s = ltb (s .number) 256
 

@@ -13,7 +13,8 @@ use Rattle.ieee.specs.Remainder.{remEuclidOf}
 use Rattle.trig.specs.Pi.{twoPi}
 use Rattle.trig.specs.Sine.{sinOf, cosOf}
 use Rattle.arctangent.specs.Arctangent.{atan2Of}
-use Rattle.vector.specs.Vector.{x, z, minor}
+use Rattle.vector.specs.Operations.{Two, pairDeterminantBy, pairRowsBy}
+use Rattle.vector.specs.Vector.{x, z, floats}
 use Rattle.vector.specs.Speakers.{Speaker}
 use Rattle.order.specs.declared.Spot.{Spot}
 use Rattle.order.specs.Order.{sortedOf}
@@ -23,9 +24,13 @@ use Rattle.planar.specs.declared.PlanarPair.{PlanarPair}
 
 -- ---- tolerances
 
--- 1e-9 in 64 bits. Origin: vbap.rs lines 232 and 240; a second gap of two speakers, and a determinant, that count as none.
-abbrev pub tiny : Float
-tiny = ofBits binary64 0x3e11_2e0b_e826_d695
+-- 1e-9 in 64 bits. Origin: vbap.rs line 232; below it the second gap of two speakers is the whole circle.
+abbrev pub leastSecondGap : Float
+leastSecondGap = ofBits binary64 0x3e11_2e0b_e826_d695
+
+-- 1e-9 in 64 bits. Origin: vbap.rs line 240; guards the division by a pair's determinant.
+abbrev pub leastPairDeterminant : Float
+leastPairDeterminant = ofBits binary64 0x3e11_2e0b_e826_d695
 
 -- 1e-6 in 64 bits. Origin: vbap.rs line 233; coincident speakers.
 abbrev pub coincident : Float
@@ -49,14 +54,18 @@ ring act = sortedOf (map spotOf act)
 unfoldable pub gapAt : ℕ → ℕ → Float → Float → Float
 gapAt m i azA azB =
     let gap = remEuclidOf binary64 (sub binary64 azB azA) twoPi in
-    cond (eqb m 2 && eqb i 1 && lt gap tiny) twoPi gap
+    cond (eqb m 2 && eqb i 1 && lt gap leastSecondGap) twoPi gap
 
--- [bz, −bx, −az, ax] over the determinant, narrowed; the crossfade where that is next to none
+-- the rows of the inverse of the matrix with the columns (ax, az) and (bx, bz), [bz, −bx, −az, ax] over the determinant, narrowed; the crossfade where that is next to none
 unfoldable pub inverseLaw : Float → Float → Float → Float → Law
 inverseLaw ax az bx bz =
-    let det = minor ax bz bx az in
+    let a : Two Float = record { x = ax; z = az } in
+    let b : Two Float = record { x = bx; z = bz } in
+    let det = pairDeterminantBy (floats binary64) a b in
+    let rows = pairRowsBy (floats binary64) a b in
     let entry : Float → Float = λ c. narrowOf (div binary64 c det) in
-    cond (lt (abs det) tiny) Crossfade (Inverse (entry bz) (entry (neg bx)) (entry (neg az)) (entry ax))
+    cond (lt (abs det) leastPairDeterminant) Crossfade
+    (Inverse (entry (rows .first .x)) (entry (rows .first .z)) (entry (rows .second .x)) (entry (rows .second .z)))
 
 unfoldable pub lawOf : Float → Float → Float → Law
 lawOf azA azB gap =

@@ -1,4 +1,5 @@
 // The pairs of a planar layout.
+// Lengths of arrays: 40 speakers (document 01, refusal 2), so at most 40 pairs, and three numbers a direction, 120. 53 is the room of crate order: of 54 points, 40 speakers and 14 imaginary ones (vbap.rs line 60), all but one.
 ghost use mathlib.Core.Path.{_≡_};
 ghost use mathlib.Core.Bool.{true};
 ghost use mathlib.Core.List.{map};
@@ -39,11 +40,11 @@ enum Joined {
     Pair(PlanarPair),
 }
 
-// 2 * PI64. Origin: vbap.rs line 231.
-const TWO_PI: f64 = 6.283185307179586;
+// Origin: vbap.rs line 232; below it the second gap of two speakers is the whole circle.
+const LEAST_SECOND_GAP: f64 = 1e-9;
 
-// Origin: vbap.rs lines 232 and 240; a second gap of two speakers, and a determinant, that count as none.
-const TINY: f64 = 1e-9;
+// Origin: vbap.rs line 240; guards the division by a pair's determinant.
+const LEAST_PAIR_DETERMINANT: f64 = 1e-9;
 
 // Origin: vbap.rs line 233; a smaller gap is one of coincident speakers.
 const COINCIDENT: f64 = 1e-6;
@@ -91,9 +92,9 @@ fn spots(out: &[u8; 40], dir: &[f64; 120], n: usize) -> [Spot; 53]
 fn gap_at(m: usize, i: usize, az_a: f64, az_b: f64) -> f64
     ensures { λ r. ⌜ r ≡ gapAt m i «az_a» «az_b» ⌝ }
 {
-    let gap = ieee::rem_euclid64(az_b - az_a, TWO_PI);
-    if (m == 2) & (i == 1) & (gap < TINY) {
-        return TWO_PI;
+    let gap = ieee::rem_euclid64(az_b - az_a, trig::TWO_PI);
+    if (m == 2) & (i == 1) & (gap < LEAST_SECOND_GAP) {
+        return trig::TWO_PI;
     }
     gap
 }
@@ -103,7 +104,7 @@ fn inverse_law(ax: f64, az: f64, bx: f64, bz: f64) -> Law
     ensures { λ r. ⌜ r ≡ inverseLaw ax az bx bz ⌝ }
 {
     let det = ax * bz - bx * az;
-    if ieee::abs64(det) < TINY {
+    if ieee::abs64(det) < LEAST_PAIR_DETERMINANT {
         return Law::Crossfade;
     }
     Law::Inverse(

@@ -22,7 +22,7 @@ use Rattle.vector.specs.Vector.{Vector, dotIn, dirVecOf}
 use Rattle.hull.specs.Triplets.{Triplet}
 use Rattle.panner.specs.Shape.{HullShape}
 use Rattle.planar_row.specs.PlanarRow.{addAt, count32}
-use Rattle.filling.specs.Filling.{maxImaginary}
+use Rattle.vector.specs.Limits.{maxImaginary}
 use Rattle.hull_row.specs.HullRow.{Aimed, aimed, bestOf, nearestPoint, nearestRow, Filling, give, filling, shared, tripletRow, rowBy, hullRow}
 use Rattle.bounds.proofs.Units.{Val}
 use Rattle.bounds.proofs.Held.{Held, held}

@@ -16,7 +16,7 @@ use Rattle.hull.specs.Triplets.{Triplet}
 use Rattle.panner.specs.Shape.{HullShape, Shape, silent, mono, planar, hull}
 use Rattle.panner.specs.Malformed.{usedSlots}
 use Rattle.planar_row.specs.PlanarRow.{addAt, count32, leastPairNorm, Two, byLaw, chosen, planarSpread, spreadGain, spreadAt, spread, pairRow, planarRow}
-use Rattle.filling.specs.Filling.{maxImaginary}
+use Rattle.vector.specs.Limits.{maxImaginary}
 use Rattle.hull_row.specs.HullRow.{Aimed, bestOf, nearestPoint, nearestRow, Filling, give, filling, shared, scaled, tripletRow, rowBy, hullRow}
 use Rattle.gains.specs.Gains.{rowIn}
 use Rattle.lists.proofs.Each.{each-left, each-right, each-unflat, each-getD, each-or, foldl-keeps, foldl-always}

@@ -10,10 +10,10 @@ use lib.Ieee.{Float, binary64, mul, div, lt}
 use Rattle.lists.specs.Lists.{range, between, Each}
 use Rattle.ieee.specs.Values.{abs}
 use Rattle.widths.specs.Narrow.{narrowOf}
-use Rattle.vector.specs.Vector.{Vector, Points, dotOf, dotIn, crossOf, lengthOf}
-use Rattle.faces.specs.Faces.{tiny, leastDistance, Plane, point, others, rawNormal, planeThrough, allBelow, allAbove, outward}
+use Rattle.vector.specs.Vector.{Vector, Points, dotOf, dotIn, minor, crossOf, determinantOf, inverseRowsOf, lengthOf}
+use Rattle.faces.specs.Faces.{leastNormal, leastDistance, Plane, point, others, rawNormal, planeThrough, allBelow, allAbove, outward}
 use Rattle.fan.specs.Fan.{coplanar, inFan}
-use Rattle.hull.specs.Triplets.{Verdict, skip, open-hull, keep, determinantOf, inverseOf, verdictBy, verdict, verdicts, kept, tripletsOf}
+use Rattle.hull.specs.Triplets.{Verdict, skip, open-hull, keep, leastDeterminant, inverseOf, verdictBy, verdict, verdicts, kept, tripletsOf}
 use Rattle.bounds.proofs.Held.{held}
 use Rattle.bounds.proofs.Size.{Mag, mag-mul, mag-add}
 use Rattle.sound.specs.Sound.{Within, SoundTriplet, largestInverse}
@@ -23,7 +23,7 @@ use Rattle.sound.proofs.Inverses.{minor-mag, entry-within}
 
 module _ {a b : Vector} (p : Direction a) (q : Direction b) where
   cross-mag : Each (λ v. Mag binary64 v (2 * L)) (crossOf a b)
-  unfolding crossOf
+  unfolding crossOf minor
   cross-mag =
       (minor-mag (y-mag p) (z-mag q) (z-mag p) (y-mag q), (minor-mag (z-mag p) (x-mag q) (x-mag p) (z-mag q), (minor-mag (x-mag p) (y-mag q) (y-mag p) (x-mag q), tt)))
 
@@ -37,8 +37,8 @@ module _ {a b c : Vector} (p : Direction a) (q : Direction b) (r : Direction c) 
       product : {u v : Float} → Mag binary64 u L → Mag binary64 v (2 * L) → Mag binary64 (mul binary64 u v) (2 * L)
       product u v = mag-mul (2 * L) u v (held binary64 2 1074 (lit≤ tt)) (lit< tt) (lit≤ tt)
 
-  inverse-within : T (not (lt (abs (determinantOf a b c)) tiny)) → Each (Within largestInverse) (inverseOf a b c)
-  unfolding inverseOf
+  inverse-within : T (not (lt (abs (determinantOf a b c)) leastDeterminant)) → Each (Within largestInverse) (inverseOf a b c)
+  unfolding inverseOf inverseRowsOf crossOf
   inverse-within n =
       let P : Float → Type 0 = λ v. Mag binary64 v (2 * L) in
       each-map (Within largestInverse) (λ e. narrowOf (div binary64 e (determinantOf a b c))) (crossOf b c ++ crossOf c a ++ crossOf a b)
@@ -46,7 +46,7 @@ module _ {a b c : Vector} (p : Direction a) (q : Direction b) (r : Direction c) 
       (each-append P (crossOf b c ++ crossOf c a) (crossOf a b) (each-append P (crossOf b c) (crossOf c a) (cross-mag q r) (cross-mag r p)) (cross-mag p q)))
 
 inverse-nine : (a b c : Vector) → length (inverseOf a b c) ≡ 9
-unfolding inverseOf crossOf
+unfolding inverseOf inverseRowsOf
 inverse-nine a b c = refl
 
 -- ---- what becomes of a triple
@@ -59,12 +59,12 @@ Kept n (keep t) = SoundTriplet n t
 module _ (pts : Points) (e : Each Direction pts) (i j k : ℕ) (g : i < j) (h : j < k) (l : k < length pts) where
   by-kept : (f : Plane) → Kept (length pts) (verdictBy pts i j k f)
   unfolding verdictBy
-  by-kept f = by (lt (f .d) leastDistance) (not (inFan pts (f .nrm) i j k (coplanar pts f (others (length pts) i j k)))) (lt (abs (determinantOf (point pts i) (point pts j) (point pts k))) tiny) (λ n. n)
+  by-kept f = by (lt (f .d) leastDistance) (not (inFan pts (f .nrm) i j k (coplanar pts f (others (length pts) i j k)))) (lt (abs (determinantOf (point pts i) (point pts j) (point pts k))) leastDeterminant) (λ n. n)
     where
       at : (m : ℕ) → m < length pts → Direction (point pts m)
       at m q = each-getD Direction pts m [] q e
 
-      by : (x y z : Bool) → (T (not z) → T (not (lt (abs (determinantOf (point pts i) (point pts j) (point pts k))) tiny)))
+      by : (x y z : Bool) → (T (not z) → T (not (lt (abs (determinantOf (point pts i) (point pts j) (point pts k))) leastDeterminant)))
           → Kept (length pts) (cond x open-hull (cond y skip (cond z skip (keep (record { i = i; j = j; k = k; inv = inverseOf (point pts i) (point pts j) (point pts k) })))))
       by true y z n = tt
       by false true z n = tt
@@ -83,7 +83,7 @@ module _ (pts : Points) (e : Each Direction pts) (i j k : ℕ) (g : i < j) (h : 
   verdict-kept =
       let f = planeThrough (point pts i) (point pts j) (point pts k) in
       let ps = others (length pts) i j k in
-      by (lt (lengthOf (rawNormal (point pts i) (point pts j) (point pts k))) tiny) (not (allBelow pts f ps || allAbove pts f ps))
+      by (lt (lengthOf (rawNormal (point pts i) (point pts j) (point pts k))) leastNormal) (not (allBelow pts f ps || allAbove pts f ps))
       (verdictBy pts i j k (outward (allBelow pts f ps) f)) (by-kept (outward (allBelow pts f ps) f))
     where
       by : (x y : Bool) (v : Verdict) → Kept (length pts) v → Kept (length pts) (cond x skip (cond y skip v))

@@ -8,8 +8,8 @@ use lib.Ieee.Scale.{overflow}
 use Rattle.ieee.specs.Values.{abs}
 use Rattle.widths.specs.Narrow.{narrowOf}
 use Rattle.vector.specs.Vector.{minor}
-use Rattle.faces.specs.Faces.{tiny}
-use Rattle.faces.proofs.Apart.{tiny-val}
+use Rattle.faces.specs.Faces.{leastNormal}
+use Rattle.faces.proofs.Apart.{normal-val}
 use Rattle.bounds.proofs.Units.{Val, unitsOf, narrow-fits}
 use Rattle.bounds.proofs.Held.{held, fits-held}
 use Rattle.bounds.proofs.Size.{Mag, mag-mul, mag-sub, mag-div, mag-narrow}
@@ -28,9 +28,9 @@ minor-mag a b c d = mag-sub (2 * L) (product a b) (product c d) (held binary64 2
     product : {u v : Float} → Mag binary64 u L → Mag binary64 v L → Mag binary64 (mul binary64 u v) L
     product u v = mag-mul L u v (held binary64 1 1074 (lit≤ tt)) (lit< tt) (lit≤ tt)
 
-pub entry-within : {c d : Float} {t : Bool} {D : ℕ} → Mag binary64 c (2 * L) → Val binary64 d t D → T (not (lt (abs d) tiny)) → Within largestInverse (narrowOf (div binary64 c d))
+pub entry-within : {c d : Float} {t : Bool} {D : ℕ} → Mag binary64 c (2 * L) → Val binary64 d t D → T (not (lt (abs d) leastNormal)) → Within largestInverse (narrowOf (div binary64 c d))
 unfolding ofBits fits
 entry-within {c} {d} h v n =
     narrow-within (div binary64 c d) largestInverse
-    (mag-div (2 ^ 31 * L) (unitsOf binary64 tiny) h v (not-lt-val (abs-val v) tiny-val n) (lit< tt) (held binary64 1 1105 (lit≤ tt)) (lit< tt) (lit≤ tt))
+    (mag-div (2 ^ 31 * L) (unitsOf binary64 leastNormal) h v (not-lt-val (abs-val v) normal-val n) (lit< tt) (held binary64 1 1105 (lit≤ tt)) (lit< tt) (lit≤ tt))
     tt (record { has = (refl, refl) }) (lit< tt) (lit≤ tt)

@@ -24,7 +24,7 @@ use Rattle.order.specs.declared.Spot.{Spot}
 use Rattle.order.proofs.Insertion.{length-sorted}
 use Rattle.neighbours.specs.Search.{Distinct}
 use Rattle.planar.specs.declared.Law.the-variants.{Inverse, Crossfade}
-use Rattle.planar.specs.Planar.{tiny, coincident, maxVbapGap, spotOf, ring, gapAt, inverseLaw, lawOf, pairOf, spotAt, pairAt, pairsOf}
+use Rattle.planar.specs.Planar.{leastSecondGap, leastPairDeterminant, coincident, maxVbapGap, spotOf, ring, gapAt, inverseLaw, lawOf, pairOf, spotAt, pairAt, pairsOf}
 use Rattle.bounds.proofs.Units.{Val, unitsOf, narrow-round}
 use Rattle.bounds.proofs.Held.{held, fits-held}
 use Rattle.bounds.proofs.Size.{Mag, val-mag, Between, mag-more, mag-neg, mag-sub, round-between}
@@ -42,13 +42,13 @@ use Rattle.sound.proofs.Inverses.{narrow-within, minor-mag, entry-withi
 -- ---- the law
 
 law-by : {ax az bx bz : Float} → Mag binary64 ax L → Mag binary64 az L → Mag binary64 bx L → Mag binary64 bz L → SoundLaw (inverseLaw ax az bx bz)
-unfolding inverseLaw SoundLaw
-law-by {ax} {az} {bx} {bz} a b c d = by (lt (abs (minor ax bz bx az)) tiny) (λ n. n)
+unfolding inverseLaw minor SoundLaw
+law-by {ax} {az} {bx} {bz} a b c d = by (lt (abs (minor ax bz bx az)) leastPairDeterminant) (λ n. n)
   where
-    entry : {e : Float} → Mag binary64 e L → T (not (lt (abs (minor ax bz bx az)) tiny)) → Within largestInverse (narrowOf (div binary64 e (minor ax bz bx az)))
+    entry : {e : Float} → Mag binary64 e L → T (not (lt (abs (minor ax bz bx az)) leastPairDeterminant)) → Within largestInverse (narrowOf (div binary64 e (minor ax bz bx az)))
     entry h n = entry-within (mag-more (lit≤ tt) h) (minor-mag a d c b .val) n
 
-    by : (t : Bool) → (T (not t) → T (not (lt (abs (minor ax bz bx az)) tiny))) → SoundLaw (cond t Crossfade
+    by : (t : Bool) → (T (not t) → T (not (lt (abs (minor ax bz bx az)) leastPairDeterminant))) → SoundLaw (cond t Crossfade
         (Inverse (narrowOf (div binary64 bz (minor ax bz bx az))) (narrowOf (div binary64 (neg bx) (minor ax bz bx az))) (narrowOf (div binary64 (neg az) (minor ax bz bx az))) (narrowOf (div binary64 ax (minor ax bz bx az)))))
     by true k = tt
     by false k = (entry d (k tt), (entry (mag-neg c) (k tt), (entry (mag-neg b) (k tt), (entry a (k tt), tt))))
@@ -65,7 +65,7 @@ law-sound {azA} {azB} gap a b = by (lt (narrowOf gap) maxVbapGap)
 
 pub gap-from-zero : {azA azB : Float} (m i : ℕ) → Mag binary64 azA (2 * H) → Mag binary64 azB (2 * H) → FromZero binary64 (gapAt m i azA azB) (4 * H)
 unfolding gapAt
-gap-from-zero {azA} {azB} m i a b = by (eqb m 2 && eqb i 1 && lt (remEuclidOf binary64 (sub binary64 azB azA) twoPi) tiny)
+gap-from-zero {azA} {azB} m i a b = by (eqb m 2 && eqb i 1 && lt (remEuclidOf binary64 (sub binary64 azB azA) twoPi) leastSecondGap)
   where
     by : (t : Bool) → FromZero binary64 (cond t twoPi (remEuclidOf binary64 (sub binary64 azB azA) twoPi)) (4 * H)
     by true = inl (record { X = 4 * H; val = two-val; most = le-refl (4 * H) })

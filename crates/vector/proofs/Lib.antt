@@ -1,3 +1,4 @@
 pub mod Accepted
 pub mod Points
 pub mod Pulkki
+pub mod Rows

@@ -1,7 +1,8 @@
 -- The rows of an inverse times the speakers' matrix: each product is a sum of products of the speakers' numbers, which cancel in pairs or are those of the determinant. Assumes nothing.
 use mathlib.Core.Path.{_≡_, refl, sym, ap, _∙_}
 use mathlib.Mathlib.Algebra.Ring.Defs.{CommRing}
-use Rattle.vector.specs.Pulkki.{Exact, exactMinor, exactDot, exactCross, InverseOfTwo, InverseOfThree}
+use Rattle.vector.specs.Operations.{Three, minorBy, dotBy, crossBy}
+use Rattle.vector.specs.Pulkki.{exact, InverseOfTwo, InverseOfThree}
 
 module _ {R : Type 0} (𝓡 : CommRing R) where
   infixl 65 _+_
@@ -97,38 +98,38 @@ module _ {R : Type 0} (𝓡 : CommRing R) where
   last-first : (p q r : R) → p * q * r ≡ r * p * q
   last-first p q r = mul-comm (p * q) r ∙ sym (mul-assoc r p q)
 
-  minor-mul : (p q r s t : R) → exactMinor 𝓡 p q r s * t ≡ p * q * t - r * s * t
+  minor-mul : (p q r s t : R) → minorBy (exact 𝓡) p q r s * t ≡ p * q * t - r * s * t
   minor-mul p q r s t = right-distrib (p * q) (𝓡 .neg (r * s)) t ∙ ap (λ (n : R). p * q * t + n) (neg-mul (r * s) t)
 
-  module _ (a b c : Exact R) where
+  module _ (a b c : Three R) where
     -- (a × b) · c
-    expanded : exactDot 𝓡 (exactCross 𝓡 a b) c
+    expanded : dotBy (exact 𝓡) (crossBy (exact 𝓡) a b) c
         ≡ (a .y * b .z * c .x - a .z * b .y * c .x) + (a .z * b .x * c .y - a .x * b .z * c .y) + (a .x * b .y * c .z - a .y * b .x * c .z)
     expanded =
         sum-three (minor-mul (a .y) (b .z) (a .z) (b .y) (c .x)) (minor-mul (a .z) (b .x) (a .x) (b .z) (c .y))
         (minor-mul (a .x) (b .y) (a .y) (b .x) (c .z))
 
-  dot-comm : (a b : Exact R) → exactDot 𝓡 a b ≡ exactDot 𝓡 b a
+  dot-comm : (a b : Three R) → dotBy (exact 𝓡) a b ≡ dotBy (exact 𝓡) b a
   dot-comm a b = sum-three (mul-comm (a .x) (b .x)) (mul-comm (a .y) (b .y)) (mul-comm (a .z) (b .z))
 
   -- ---- the products of the rows
 
-  module _ (a b : Exact R) where
-    first-none : exactDot 𝓡 (exactCross 𝓡 a b) a ≡ 𝓡 .zero
+  module _ (a b : Three R) where
+    first-none : dotBy (exact 𝓡) (crossBy (exact 𝓡) a b) a ≡ 𝓡 .zero
     first-none =
         expanded a b a
         ∙ diffs-none _ _ _ _ _ _
         (sum-three (swap-ends (a .y) (b .z) (a .x)) (swap-ends (a .z) (b .x) (a .y)) (swap-ends (a .x) (b .y) (a .z))
         ∙ sym (turned (a .z * b .y * a .x) (a .x * b .z * a .y) (a .y * b .x * a .z)))
 
-    second-none : exactDot 𝓡 (exactCross 𝓡 a b) b ≡ 𝓡 .zero
+    second-none : dotBy (exact 𝓡) (crossBy (exact 𝓡) a b) b ≡ 𝓡 .zero
     second-none =
         expanded a b b
         ∙ diffs-none _ _ _ _ _ _
         (sum-three (swap-last (a .y) (b .z) (b .x)) (swap-last (a .z) (b .x) (b .y)) (swap-last (a .x) (b .y) (b .z))
         ∙ turned (a .y * b .x * b .z) (a .z * b .y * b .x) (a .x * b .z * b .y))
 
-  module _ (a b c : Exact R) where
+  module _ (a b c : Three R) where
     raised : c .y * a .z * b .x + c .z * a .x * b .y + c .x * a .y * b .z ≡ b .y * c .z * a .x + b .z * c .x * a .y + b .x * c .y * a .z
     raised =
         sum-three (last-first (c .y) (a .z) (b .x)) (last-first (c .z) (a .x) (b .y)) (last-first (c .x) (a .y) (b .z))
@@ -139,7 +140,7 @@ module _ {R : Type 0} (𝓡 : CommRing R) where
         sum-three (last-first (c .z) (a .y) (b .x)) (last-first (c .x) (a .z) (b .y)) (last-first (c .y) (a .x) (b .z))
         ∙ sym (turned (b .z * c .y * a .x) (b .x * c .z * a .y) (b .y * c .x * a .z))
 
-    turn : exactDot 𝓡 (exactCross 𝓡 c a) b ≡ exactDot 𝓡 (exactCross 𝓡 b c) a
+    turn : dotBy (exact 𝓡) (crossBy (exact 𝓡) c a) b ≡ dotBy (exact 𝓡) (crossBy (exact 𝓡) b c) a
     turn =
         expanded c a b
         ∙ diffs-add _ _ _ _ _ _
@@ -148,17 +149,17 @@ module _ {R : Type 0} (𝓡 : CommRing R) where
         ∙ sym (expanded b c a ∙ diffs-add _ _ _ _ _ _)
 
 pub inverse-of-two : InverseOfTwo
-inverse-of-two R 𝓡 ax az bx bz =
+inverse-of-two R 𝓡 a b =
     record {
-      first-a = sum-two 𝓡 (mul-comm 𝓡 bz ax) (neg-mul 𝓡 bx az);
-      first-b = sum-two 𝓡 (mul-comm 𝓡 bz bx) (neg-mul 𝓡 bx bz) ∙ sub-self 𝓡 (𝓡 .mul bx bz);
-      second-a = sum-two 𝓡 (neg-mul 𝓡 az ax ∙ ap (𝓡 .neg) (mul-comm 𝓡 az ax)) refl ∙ neg-add-cancel 𝓡 (𝓡 .mul ax az);
-      second-b = sum-two 𝓡 (neg-mul 𝓡 az bx ∙ ap (𝓡 .neg) (mul-comm 𝓡 az bx)) refl ∙ add-comm 𝓡 (𝓡 .neg (𝓡 .mul bx az)) (𝓡 .mul ax bz);
+      first-a = sum-two 𝓡 (mul-comm 𝓡 (b .z) (a .x)) (neg-mul 𝓡 (b .x) (a .z));
+      first-b = sum-two 𝓡 (mul-comm 𝓡 (b .z) (b .x)) (neg-mul 𝓡 (b .x) (b .z)) ∙ sub-self 𝓡 (𝓡 .mul (b .x) (b .z));
+      second-a = sum-two 𝓡 (neg-mul 𝓡 (a .z) (a .x) ∙ ap (𝓡 .neg) (mul-comm 𝓡 (a .z) (a .x))) refl ∙ neg-add-cancel 𝓡 (𝓡 .mul (a .x) (a .z));
+      second-b = sum-two 𝓡 (neg-mul 𝓡 (a .z) (b .x) ∙ ap (𝓡 .neg) (mul-comm 𝓡 (a .z) (b .x))) refl ∙ add-comm 𝓡 (𝓡 .neg (𝓡 .mul (b .x) (a .z))) (𝓡 .mul (a .x) (b .z));
     }
 
 pub inverse-of-three : InverseOfThree
 inverse-of-three R 𝓡 a b c =
-    let whole = dot-comm 𝓡 (exactCross 𝓡 b c) a in
+    let whole = dot-comm 𝓡 (crossBy (exact 𝓡) b c) a in
     record {
       first-a = whole;
       first-b = first-none 𝓡 b c;

@@ -1,3 +1,5 @@
+pub mod Limits
+pub mod Operations
 pub mod Vector
 pub mod Speakers
 pub mod Unit

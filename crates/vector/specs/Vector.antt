@@ -1,8 +1,8 @@
 -- Document 01, "What to write where" (each direction an [f64; 3]); source lines 155 to 183: unit, cross, dot, dir_vec.
--- A vector is the list of its three numbers. Assumes nothing.
+-- A vector is the list of its three numbers. What dot, cross, a determinant and an inverse's rows are is written in Operations.antt. Assumes nothing.
 use Prim.Native.Nat.{ℕ}
 use mathlib.Core.Bool.{_||_, not, cond}
-use mathlib.Core.List.{List, [], _∷_, map}
+use mathlib.Core.List.{List, [], _∷_, _++_, map}
 use mathlib.Core.Option.{Option, none, some}
 use lib.ListN.{getD}
 use lib.Ieee.{Float, nan, Format, binary32, binary64, add, sub, neg, mul, div, le, ofBits}
@@ -10,6 +10,7 @@ use Rattle.lists.specs.Lists.{range, part}
 use Rattle.ieee.specs.Values.{isFinite}
 use Rattle.root.specs.Root.{sqrtOf}
 use Rattle.trig.specs.Sine.{sin32Of, cos32Of}
+use Rattle.vector.specs.Operations.{Operations, Three, minorBy, dotBy, crossBy, determinantBy, rowsBy}
 
 abbrev pub Vector : Type 0
 Vector = List Float
@@ -26,19 +27,36 @@ y v = getD v 1 nan
 abbrev pub z : Vector → Float
 z v = getD v 2 nan
 
+-- the operations of floats, each rounded once, and a vector as Operations.antt has it
+abbrev pub floats : Format → Operations Float
+floats f = record { add = add f; sub = sub f; mul = mul f; neg = neg }
+
+abbrev pub three : Vector → Three Float
+three v = record { x = x v; y = y v; z = z v }
+
+abbrev pub listed : Three Float → Vector
+listed v = v .x ∷ v .y ∷ v .z ∷ []
+
 -- a[0]·b[0] + a[1]·b[1] + a[2]·b[2], in either format
 unfoldable pub dotIn : Format → Vector → Vector → Float
-dotIn f a b = add f (add f (mul f (x a) (x b)) (mul f (y a) (y b))) (mul f (z a) (z b))
+dotIn f a b = dotBy (floats f) (three a) (three b)
 
 unfoldable pub dotOf : Vector → Vector → Float
 dotOf a b = dotIn binary64 a b
 
 -- a·b − c·d
 unfoldable pub minor : Float → Float → Float → Float → Float
-minor a b c d = sub binary64 (mul binary64 a b) (mul binary64 c d)
+minor a b c d = minorBy (floats binary64) a b c d
 
 unfoldable pub crossOf : Vector → Vector → Vector
-crossOf a b = minor (y a) (z b) (z a) (y b) ∷ minor (z a) (x b) (x a) (z b) ∷ minor (x a) (y b) (y a) (x b) ∷ []
+crossOf a b = listed (crossBy (floats binary64) (three a) (three b))
+
+-- the determinant of the matrix with the columns a, b and c, and the nine numbers of the rows of its inverse before they are divided by it
+unfoldable pub determinantOf : Vector → Vector → Vector → Float
+determinantOf a b c = determinantBy (floats binary64) (three a) (three b) (three c)
+
+unfoldable pub inverseRowsOf : Vector → Vector → Vector → List Float
+inverseRowsOf a b c = let r = rowsBy (floats binary64) (three a) (three b) (three c) in listed (r .first) ++ listed (r .second) ++ listed (r .third)
 
 -- a − b, a ÷ l and −a, number by number
 unfoldable pub lessOf : Vector → Vector → Vector

@@ -15,6 +15,9 @@ pub struct Direction {
 // Origin: vbap.rs line 158; a shorter position has no direction.
 const SHORTEST: f64 = 1e-6;
 
+// How many imaginary points there are at most, poles counted. Origin: vbap.rs line 60 and document 01.
+pub const MAX_IMAGINARY: usize = 14;
+
 // The position as a direction, where its length is finite and above 1e-6.
 pub fn unit(p: [f32; 3]) -> Direction
     ensures { λ r. ⌜ r ≡ unitIn p ⌝ }
