@@ -1,5 +1,6 @@
+pub mod Points
 pub mod Candidates
 pub mod Lowered
-pub mod Points
 pub mod Stages
 pub mod Meaning
+pub mod Examples

@@ -1,3 +1,4 @@
 pub mod Closing
 pub mod Flat
 pub mod Meaning
+pub mod Examples

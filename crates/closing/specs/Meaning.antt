@@ -10,15 +10,15 @@ use Rattle.lists.specs.Lists.{every}
 use Rattle.ieee.specs.Values.{1·0}
 use Rattle.root.specs.Root.{sqrtOf}
 use Rattle.vector.specs.Limits.{maxImaginary}
-use Rattle.vector.specs.Vector.{Vector, Points, shortest}
+use Rattle.vector.specs.Vector.{Vector, Points}
 use Rattle.hull.specs.Triplets.{tripletsOf, closed}
 use Rattle.closing.specs.Closing.{almost, h, greatest, passedOver, candidates, wins, candidateOf, withPoles, stages, finalPoints}
 
 -- ---- the constants, as the source writes them
 
 pub record Origins : Type 0 where
-  -- vbap.rs lines 370 and 385: 1.0 - 1e-6
-  pub there : almost ≡ sub binary64 1·0 shortest
+  -- vbap.rs lines 370 and 385: 1.0 - 1e-6, 1e-6 being 3eb0_c6f7_a0b5_ed8d
+  pub there : almost ≡ sub binary64 1·0 (ofBits binary64 0x3eb0_c6f7_a0b5_ed8d)
   -- vbap.rs line 64: 1.0 / 3.0.sqrt(), 3 being 4008_0000_0000_0000
   pub diagonal : h ≡ div binary64 1·0 (sqrtOf binary64 (ofBits binary64 0x4008_0000_0000_0000))
 
