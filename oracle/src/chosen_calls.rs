@@ -2,6 +2,7 @@
 //! what each call leaves. The numbers beside the calls are document 01's.
 
 use crate::call_line::{Asked, Writer};
+use crate::chosen_layouts::{nine_imaginary, open_hull};
 use crate::edges::{Position, F, RIGHT, TOP};
 use crate::layout_line::Layout;
 use crate::layouts::{front, repeated, ring};
@@ -287,8 +288,43 @@ fn steps(w: &mut Writer) {
     w.end();
 }
 
+/// Sessions over a hull that is open at the end, where the nearest speaker plays alone, and over
+/// the one with the most imaginary speakers found.
+fn ends(w: &mut Writer) {
+    w.opens(
+        &layout("open hull: the nearest speaker", &open_hull()),
+        2,
+        0,
+    );
+    let block = |seed| (render(2, 22, 3, seed), 0);
+    w.gives(&[
+        (place(0, 0.3, 0.2), 0),
+        (place(1, -2.0, -0.7), 0),
+        block(1),
+        (place(0, 0.8, 0.6), 0),
+        block(4),
+        (TakeBack { source: 0 }, 0),
+        (Settle { source: 1 }, 0),
+        block(7),
+        (render(2, 21, 3, 1), 10),
+        (TakeBack { source: 1 }, 0),
+        (TakeBack { source: 1 }, 7),
+        block(2),
+    ]);
+    w.end();
+    w.opens(&layout("nine imaginary", &nine_imaginary()), 1, 0);
+    w.gives(&[
+        (place(0, 0.3, 0.2), 0),
+        (render(1, 3, 4, 1), 0),
+        (place(0, 2.5, -0.5), 0),
+        (render(1, 3, 4, 4), 0),
+    ]);
+    w.end();
+}
+
 pub fn chosen(w: &mut Writer) {
     proving_ground(w);
     orders(w);
     steps(w);
+    ends(w);
 }

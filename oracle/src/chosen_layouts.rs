@@ -610,12 +610,107 @@ fn many_imaginary() -> Vec<Layout> {
     ]
 }
 
-/// The layout with the most imaginary speakers that was found.
+/// The two speakers with the most imaginary ones that were found.
 pub fn eight_imaginary() -> Vec<Position> {
     vec![
         [1.0, -1.000003, -1.000024],
         [-1.0000017, -1.0000042, 0.9999982],
     ]
+}
+
+/// The layout with the most imaginary speakers that was found: one beside the zenith, two next
+/// to opposite cube diagonals.
+pub fn nine_imaginary() -> Vec<Position> {
+    [
+        [0xba9a_ad71u32, 0x3f80_0c25, 0x3a8d_b7f5],
+        [0x3f7f_f9f3, 0xbf80_0331, 0xbf80_0232],
+        [0xbf80_022c, 0x3f80_00b4, 0x3f80_006e],
+    ]
+    .map(|p| p.map(f32::from_bits))
+    .to_vec()
+}
+
+// ---- hulls that stay open
+
+/// The six axes in the candidates' order. Origin: vbap.rs lines 66 to 71.
+pub const AXES: [Position; 6] = [TOP, [0.0, -1.0, 0.0], BACK, F, RIGHT, LEFT];
+
+/// The eight corners of the cube, from (1, 1, 1) on, the last coordinate changing first.
+pub fn corners() -> Vec<Position> {
+    signs([1.0, 1.0, 1.0])
+}
+
+/// The fewest speakers found whose hull is open at the end: a speaker in each candidate's
+/// direction, and the corners' a second time.
+pub fn open_hull() -> Vec<Position> {
+    [AXES.to_vec(), corners(), corners()].concat()
+}
+
+/// The loop's ends beside the closed hull, and what lies next to them.
+pub fn ends() -> Vec<Layout> {
+    let beside: Vec<Position> = corners().into_iter().flat_map(|c| [c, c]).collect();
+    let thrice = [corners(), corners(), corners()].concat();
+    let lengths = [2.0, 0.5, 1.5].map(|by| corners().into_iter().map(move |p| p.map(|x| x * by)));
+    let [double, half, more] = lengths.map(Iterator::collect::<Vec<Position>>);
+    let off: Vec<Position> = AXES
+        .iter()
+        .map(|p| p.map(|x| if x == 0.0 { 0.0005 } else { x }))
+        .collect();
+    let mut all = vec![
+        layout("three speakers, nine imaginary", &nine_imaginary()),
+        layout("open hull", &open_hull()),
+        layout(
+            "open hull, a corner's two side by side",
+            &[AXES.to_vec(), beside.clone()].concat(),
+        ),
+        layout(
+            "open hull, corners thrice",
+            &[AXES.to_vec(), thrice].concat(),
+        ),
+        layout(
+            "open hull, each axis twice too",
+            &[AXES.to_vec(), AXES.to_vec(), beside].concat(),
+        ),
+        layout(
+            "open hull, corners at other distances",
+            &[AXES.to_vec(), double, half].concat(),
+        ),
+        layout(
+            "open hull, corners at a distance of no power of two",
+            &[AXES.to_vec(), corners(), more].concat(),
+        ),
+        layout(
+            "open hull, axes a little off",
+            &[off, corners(), corners()].concat(),
+        ),
+        Layout::new(
+            "open hull with an LFE among the corners",
+            &[open_hull(), vec![[1.0, 1.0, 1.0]]].concat(),
+            &[6],
+        ),
+        layout(
+            "closed: axes and corners once",
+            &[AXES.to_vec(), corners()].concat(),
+        ),
+        layout(
+            "closed: corners before the axes",
+            &[corners(), AXES.to_vec(), corners()].concat(),
+        ),
+        layout(
+            "closed: axes last",
+            &[corners(), corners(), AXES.to_vec()].concat(),
+        ),
+        layout(
+            "closed: the axes twice, the corners once",
+            &[corners(), AXES.to_vec(), AXES.to_vec()].concat(),
+        ),
+    ];
+    for n in 0..AXES.len() + corners().len() {
+        let mut fewer = open_hull();
+        let gone = fewer.remove(n);
+        all.push(layout(format!("open hull without its {gone:?}"), &fewer));
+    }
+    all
 }
 
 /// Every count of numbers around the refusals.
@@ -756,6 +851,7 @@ pub fn chosen(r: &mut Random) -> Vec<Layout> {
         lengths(),
         lfe_lists(),
         values(),
+        ends(),
     ]
     .concat()
 }

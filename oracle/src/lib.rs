@@ -15,6 +15,7 @@ pub mod libm;
 pub mod lists;
 pub mod made_records;
 pub mod made_sessions;
+pub mod open_hulls;
 pub mod ramps;
 pub mod random;
 pub mod random_layouts;

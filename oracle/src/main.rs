@@ -1,14 +1,14 @@
 //! Writes, prints and compares the case lists. See README.md.
 
 use oracle::lists::{list, stream, INPUTS};
-use oracle::{libm, rationale, rehearsal, selftest};
+use oracle::{libm, open_hulls, rationale, rehearsal, selftest};
 use std::io::{BufWriter, Write};
 use std::path::Path;
 use std::process::ExitCode;
 use std::{env, fs, io};
 
 const USAGE: &str =
-    "usage: oracle cases NAME | write ROOT | fresh ROOT | stream COUNT SEED | libm | selftest | rationale | rehearsal";
+    "usage: oracle cases NAME | write ROOT | fresh ROOT | stream COUNT SEED | libm | selftest | rationale | rehearsal | open_hulls ROUNDS SEED";
 
 /// What the rehearsal writes, below the repository's root.
 const REHEARSAL: &str = "crates/demo_rehearsal/stdout";
@@ -99,6 +99,10 @@ fn run(words: &[&str]) -> Result<(), String> {
             Ok(())
         }
         ["stream", count, seed] => random_cases(count, seed),
+        ["open_hulls", rounds, seed] => {
+            open_hulls::search(number(rounds)?, number(seed)?);
+            Ok(())
+        }
         _ => Err(USAGE.to_string()),
     }
 }

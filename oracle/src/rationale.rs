@@ -2,9 +2,12 @@
 //! Experiments run on `vbap_measured`, which is the source while no tolerance is changed.
 
 mod differences;
+mod ends;
 mod findings;
 
-use crate::chosen_layouts::{eight_imaginary, five_around, raised_centre, rounded, wall};
+use crate::chosen_layouts::{
+    eight_imaginary, five_around, nine_imaginary, raised_centre, rounded, wall,
+};
 use crate::edges::{edges, third_of_four, Edge, Position, F, TOP};
 use crate::layout_line::Layout;
 use crate::layouts::{at, front, opened, ring, triples};
@@ -602,16 +605,20 @@ fn closing() {
         "the same with a pole on the zenith speaker",
         &with(POLE, -1.0, || built(&zenith)),
     );
-    let eight = eight_imaginary();
-    print_cover("two speakers, eight imaginary", &built(&eight));
-    print_cover(
-        "the same with at most seven",
-        &with(IMAGINARY, 7.0, || built(&eight)),
-    );
-    print_cover(
-        "the same with at most four",
-        &with(IMAGINARY, 4.0, || built(&eight)),
-    );
+    for (name, positions, fewer) in [
+        ("two speakers, eight imaginary", eight_imaginary(), 7.0),
+        ("three speakers, nine imaginary", nine_imaginary(), 8.0),
+    ] {
+        print_cover(name, &built(&positions));
+        print_cover(
+            &format!("the same with at most {fewer}"),
+            &with(IMAGINARY, fewer, || built(&positions)),
+        );
+        print_cover(
+            "the same with at most four",
+            &with(IMAGINARY, 4.0, || built(&positions)),
+        );
+    }
     let centre = raised_centre(5.0);
     let directions = [(0.0, 0.0), (0.0, 1.0), (0.0, 3.0), (10.0, 0.0)];
     rows("front-only, raised centre", &built(&centre), &directions);
@@ -835,6 +842,7 @@ pub fn report() -> Result<(), String> {
     closing();
     imaginary_over_stored();
     coincident_hulls();
+    ends::report();
     println!("# rows, ramps, mixed gains");
     inside();
     short_buffers();

@@ -1,6 +1,8 @@
 //! The lists of rows: which layouts and records, and how many rows of each.
 
-use crate::chosen_layouts::{five_around, houses, raised_centre, rounded};
+use crate::chosen_layouts::{
+    ends, five_around, houses, nine_imaginary, open_hull, raised_centre, rounded,
+};
 use crate::edges::{Position, BACK, F, LEFT, RIGHT, TOP};
 use crate::layout_line::Layout;
 use crate::layouts::{at, ordinary, ring};
@@ -159,6 +161,38 @@ fn findings() -> Vec<(Layout, Vec<Direction>)> {
     ]
 }
 
+/// The loop's ends of docs/RATIONALE.md, section 2, with its directions: between the speakers, at
+/// them, next to where the nearest one changes, at the poles, and broken.
+fn closing_ends() -> Vec<(Layout, Vec<Direction>)> {
+    let around = vec![
+        (0.3, 0.2),
+        degrees(0.0, 0.0),
+        degrees(45.0, 0.0),
+        degrees(45.0, 35.0),
+        degrees(-135.0, -35.0),
+        degrees(36.0, 0.0),
+        degrees(37.0, 0.0),
+        degrees(0.0, 36.0),
+        degrees(0.0, 37.0),
+        degrees(0.0, 90.0),
+        degrees(120.0, -90.0),
+        degrees(180.0, 20.0),
+        (f32::NAN, 0.2),
+        (0.3, f32::INFINITY),
+        (f32::MAX, 0.2),
+    ];
+    vec![
+        (
+            Layout::new("finding 17: open hull", &open_hull(), &[]),
+            around.clone(),
+        ),
+        (
+            Layout::new("nine imaginary", &nine_imaginary(), &[]),
+            around,
+        ),
+    ]
+}
+
 fn short() -> Vec<Position> {
     vec![at(-30.0, 0.0), at(30.0, 0.0), at(0.0, 60.0), at(180.0, 0.0)]
 }
@@ -180,7 +214,7 @@ fn add_layout(rows: &mut Rows, r: &mut Random, layout: &Layout, told: &[Directio
     }
 }
 
-/// Ordinary layouts, findings, and the other houses.
+/// Ordinary layouts, findings, the other houses, and the ends of closing.
 pub fn first(r: &mut Random) -> (String, String) {
     let mut rows = Rows::default();
     let houses = distinct(houses());
@@ -193,6 +227,9 @@ pub fn first(r: &mut Random) -> (String, String) {
     }
     for layout in others {
         add_layout(&mut rows, r, layout, &[], MANY);
+    }
+    for (layout, directions) in closing_ends() {
+        add_layout(&mut rows, r, &layout, &directions, MANY);
     }
     (rows.what(), rows.text)
 }
@@ -220,7 +257,8 @@ fn corners(subject: &Subject) -> Vec<Call> {
     directions.map(|(az, el)| Call { az, el, length }).to_vec()
 }
 
-/// Records made by hand, the chosen layouts that are no houses, and drawn ones.
+/// Records made by hand, the chosen layouts that are no houses, drawn ones, and those next to the
+/// ends of closing.
 pub fn second(r: &mut Random) -> (String, String) {
     let mut rows = Rows::default();
     for made in made_records::chosen()
@@ -229,16 +267,20 @@ pub fn second(r: &mut Random) -> (String, String) {
     {
         add_record(&mut rows, r, made);
     }
-    let houses: Vec<_> = houses().iter().map(Layout::bits).collect();
+    let (houses, ends) = (houses(), ends());
+    let apart: Vec<_> = houses.iter().chain(&ends).map(Layout::bits).collect();
     for layout in layouts_of("layouts")
         .iter()
-        .filter(|l| !houses.contains(&l.bits()))
+        .filter(|l| !apart.contains(&l.bits()))
     {
         add_layout(&mut rows, r, layout, &[], SOME);
     }
     let drawn = layouts_of("layouts_random");
     for layout in drawn.iter().step_by(drawn.len() / LAYOUTS) {
         add_layout(&mut rows, r, layout, &[], FEW);
+    }
+    for layout in &ends {
+        add_layout(&mut rows, r, layout, &[], SOME);
     }
     (rows.what(), rows.text)
 }

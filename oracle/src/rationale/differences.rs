@@ -2,6 +2,7 @@
 //! the port beside the source.
 
 use super::{built, change, cover, degrees, edge_panners, row, rows, stored, summary, told};
+use crate::chosen_layouts::open_hull;
 use crate::edges::{third_of_four, Position, BACK, F, LEFT, RIGHT, TOP};
 use crate::layout_line::Layout;
 use crate::layouts::{at, fan, front, opened, ring, triples};
@@ -9,7 +10,9 @@ use crate::random::Random;
 use crate::record::{Kind, Panner};
 use crate::session::{open, Session};
 use crate::source::{vbap_libm, vbap_measured, vbap_standins};
-use crate::standins::{clamp32, max32, min32, powi4, rem_euclid32, sin_cos32, sin_cos64, PI64};
+use crate::standins::{
+    clamp32, max32, min32, powi4, rem_euclid32, rem_euclid64, sin_cos32, sin_cos64, PI64,
+};
 use crate::tolerances::{with, PLANAR, VBAP_GAP};
 
 /// The draws' seed (arbitrary).
@@ -229,7 +232,14 @@ fn cut_gains() {
     println!("  dome in millimetres at (-23.461, 43.499): {count} triplets contain it; chosen gains {:?}", raw(&dome.record().inv[best], az, el));
 }
 
+/// A hull without triplets: the open one of 22 speakers, and the smallest record made by hand.
 fn no_triplet() {
+    let open = built(&open_hull());
+    for (az, el) in [(36.0, 0.0), (37.0, 0.0), (45.0, 0.0), (0.0, 90.0)] {
+        let gains = row(&open, degrees(az), degrees(el), 22);
+        let one = gains.iter().position(|g| *g != 0.0);
+        println!("  22 speakers, open hull, at ({az}, {el}): slot {one:?} alone");
+    }
     let mut record = built(&[F, TOP, RIGHT]).record();
     record.num_tris = 0;
     let p = vbap_measured::VbapPanner::of_record(&record);
@@ -237,6 +247,122 @@ fn no_triplet() {
         "F, top and right, a record with no triplet",
         &p,
         &[(40.0, 0.0), (50.0, 0.0), (180.0, 0.0), (45.0, 0.0)],
+    );
+}
+
+// ---- bases that the source drops
+
+/// Right, left and up, all a hair in front: their plane passes the listener at about z.
+fn near_plane(z: f32) -> [Position; 3] {
+    [[1.0, 0.0, -z], [-1.0, 0.0, -z], [0.0, 1.0, -z]]
+}
+
+/// Either side of the distance that a face must have (line 303).
+fn near_faces() {
+    for bits in [0x38d1b717u32, 0x38d1b718] {
+        let three = near_plane(f32::from_bits(bits));
+        let p = built(&three);
+        let real = super::real_triplets(&p.record());
+        rows(
+            &format!(
+                "right, left and up, {} in front: {}, of real speakers {real:?}",
+                told(f32::from_bits(bits)),
+                summary(&p.record())
+            ),
+            &p,
+            &[(0.0, 0.0), (30.0, 0.0), (0.0, 45.0)],
+        );
+        for (az, el) in [(0.0, 0.0), (30.0, 0.0), (0.0, 45.0)] {
+            print_pulkki(&format!("({az}, {el})"), &pulkki(three, az, el));
+        }
+    }
+}
+
+/// Either side of the area (line 274) and of the determinant (line 345): a source half way between
+/// two speakers x apart.
+fn thin_faces() {
+    for bits in [0x3009705fu32, 0x30097060, 0x3089705f, 0x30897060] {
+        let x = f32::from_bits(bits);
+        let three = [F, [x, 0.0, -1.0], TOP];
+        let p = built(&three);
+        let base = super::real_triplets(&p.record()).contains(&[0, 1, 2]);
+        println!(
+            "  F, x {} to its right, top: {}, their own triplet {base}; at azimuth x/2 the row {:?}, at azimuth x/2 and elevation 45 {:.4?}",
+            told(x),
+            summary(&p.record()),
+            row(&p, x / 2.0, 0.0, 3),
+            row(&p, x / 2.0, degrees(45.0), 3)
+        );
+        let half = x as f64 / 2.0 * 180.0 / PI64;
+        print_pulkki("half way", &pulkki_in_64(three, half, 0.0));
+        print_pulkki("half way, 45 up", &pulkki_in_64(three, half, 45.0));
+    }
+}
+
+/// `pulkki` with the source's direction in 64 bits too.
+fn pulkki_in_64(base: [Position; 3], azimuth: f64, elevation: f64) -> Vec<f64> {
+    let ((sa, ca), (se, ce)) = (
+        sin_cos64(azimuth * PI64 / 180.0),
+        sin_cos64(elevation * PI64 / 180.0),
+    );
+    let ([a, b, c], s) = (base.map(unit), [sa * ce, se, -ca * ce]);
+    let rows = [cross(b, c), cross(c, a), cross(a, b)];
+    scaled(&rows.map(|r| dot(r, s) / dot(a, cross(b, c))))
+}
+
+/// A zenith speaker just too far from the pole for it to be left out (lines 370 and 385).
+fn beside_the_pole() {
+    let zenith = [f32::from_bits(0x3ab95d2c), 1.0, 0.0];
+    let p = built(&[RIGHT, LEFT, BACK, F, zenith]);
+    rows("ring of 4 and a zenith speaker", &p, &[(0.0, 90.0)]);
+    print_pulkki(
+        "left, back and zenith at (0, 90)",
+        &pulkki_in_64([LEFT, BACK, zenith], 0.0, 90.0),
+    );
+}
+
+/// Two speakers at right angles, so near that `unit` drops them (line 158), and a place farther.
+fn short_vectors() {
+    for bits in [0x358637bdu32, 0x358637be] {
+        let z = f32::from_bits(bits);
+        let two = [[0.0, 0.0, -z], [z, 0.0, 0.0]];
+        let p = built(&two);
+        rows(
+            &format!("front and right at {}: {}", told(z), summary(&p.record())),
+            &p,
+            &[(45.0, 0.0)],
+        );
+        print_pulkki("(45, 0)", &pulkki_pair(two[0], two[1], 45.0));
+    }
+}
+
+/// Front, right and back: azimuths just beyond the right one, still played by the first pair
+/// (line 57).
+fn beyond_a_pair() {
+    let p = built(&[F, RIGHT, BACK]);
+    for places in [0u32, 1, 4, 8, 9, 12] {
+        let az = f32::from_bits(std::f32::consts::FRAC_PI_2.to_bits() + places);
+        let beyond = az as f64 - PI64 / 2.0;
+        println!(
+            "  front, right and back at azimuth {}, {beyond:.2e} beyond the right: row {:?}",
+            told(az),
+            row(&p, az, 0.0, 3)
+        );
+    }
+}
+
+/// Pairs with an inverse over the stored layouts: how many, and the least determinant.
+fn pair_determinants() {
+    let (mut pairs, mut least) = (0, f64::INFINITY);
+    for layout in stored() {
+        let p = layout.opened().panner;
+        for q in p.pairs[..p.num_pairs].iter().filter(|q| q.law.is_some()) {
+            pairs += 1;
+            least = least.min(sin_cos64(q.gap as f64).0.abs());
+        }
+    }
+    println!(
+        "  {pairs} pairs with an inverse in the stored layouts: the least sine of a gap {least:e}"
     );
 }
 
@@ -351,12 +477,75 @@ fn library_calls() {
         parted[2] += usize::from(!same(x.rem_euclid(tau), rem_euclid32(x, tau)));
     }
     println!("  1000000 floats of any bits: clamp, powi(4) and rem_euclid(TAU) of the platform differ {parted:?} times");
+    moduli();
     let level = vbap_libm::VbapPanner::new(&[RIGHT, LEFT, BACK, F], &[]);
     let mut out = [1.0f32; 4];
     level.gains(0.0, 0.0, &mut out);
     println!(
         "  right, left, back, front at (0, 0) on the platform: {out:?}; here {:?}",
         row(&built(&[RIGHT, LEFT, BACK, F]), 0.0, 0.0, 4)
+    );
+}
+
+/// The moduli that rem_euclid is tried with, by their sort.
+const MODULI: [&str; 8] = [
+    "2 pi",
+    "positive, any bits",
+    "negative, any bits",
+    "+0",
+    "-0",
+    "infinite",
+    "minus infinite",
+    "NaN",
+];
+
+/// A modulus of a sort, in 32 and in 64 bits.
+fn modulus(r: &mut Random, sort: usize) -> (f32, f64) {
+    let any = (
+        f32::from_bits(r.bits() as u32 & 0x7fff_ffff),
+        f64::from_bits(r.bits() & (u64::MAX >> 1)),
+    );
+    match sort {
+        0 => (std::f32::consts::TAU, 2.0 * PI64),
+        1 => any,
+        2 => (-any.0, -any.1),
+        3 => (0.0, 0.0),
+        4 => (-0.0, -0.0),
+        5 => (f32::INFINITY, f64::INFINITY),
+        6 => (f32::NEG_INFINITY, f64::NEG_INFINITY),
+        _ => (f32::NAN, f64::NAN),
+    }
+}
+
+/// rem_euclid of the platform and of document 01 over moduli of every sort.
+fn moduli() {
+    let same32 = |a: f32, b: f32| a.to_bits() == b.to_bits() || (a.is_nan() && b.is_nan());
+    let same64 = |a: f64, b: f64| a.to_bits() == b.to_bits() || (a.is_nan() && b.is_nan());
+    let mut r = Random::new(SEED);
+    for (sort, name) in MODULI.iter().enumerate() {
+        let mut parted = [0usize; 3];
+        for _ in 0..1_000_000 {
+            let (m, n) = modulus(&mut r, sort);
+            let (x, y) = (f32::from_bits(r.bits() as u32), f64::from_bits(r.bits()));
+            let other = !same32(x.rem_euclid(m), rem_euclid32(x, m));
+            parted[0] += usize::from(other);
+            parted[1] += usize::from(!same64(y.rem_euclid(n), rem_euclid64(y, n)));
+            parted[2] += usize::from(other && !(x % m < 0.0 && m < 0.0));
+        }
+        println!("  rem_euclid, modulus {name}: of 1000000 the platform differs in 32 bits {}, in 64 bits {}; of the former {} without a negative remainder and modulus", parted[0], parted[1], parted[2]);
+    }
+    let small = (1..4).flat_map(|m| (1..4).map(move |x| (x as f32, m as f32)));
+    let signed = small.flat_map(|(x, m)| [(x, m), (-x, m), (x, -m), (-x, -m)]);
+    for (x, m) in signed {
+        let (there, here) = (x.rem_euclid(m), rem_euclid32(x, m));
+        if !same32(there, here) {
+            println!("    {x} by {m}: platform {there}, here {here}");
+        }
+    }
+    println!(
+        "    -1 by minus infinity: platform {}, here {}",
+        (-1.0f32).rem_euclid(f32::NEG_INFINITY),
+        rem_euclid32(-1.0, f32::NEG_INFINITY)
     );
 }
 
@@ -467,6 +656,12 @@ pub fn report() {
     choices();
     cut_gains();
     no_triplet();
+    near_faces();
+    thin_faces();
+    beside_the_pole();
+    short_vectors();
+    beyond_a_pair();
+    pair_determinants();
     widths();
     angles();
     println!("# the port and the source");

@@ -5,7 +5,7 @@ use super::{
     built, change, degrees, direction, edge_panners, has_near, print_cover, real_triplets, row,
     rows, stored, summary, told, DIRECTIONS, SEED,
 };
-use crate::chosen_layouts::{eight_imaginary, five_around, raised_centre};
+use crate::chosen_layouts::{eight_imaginary, five_around, nine_imaginary, raised_centre};
 use crate::edges::{edges, Position, F, LEFT, RIGHT, TOP};
 use crate::layouts::{at, fan, ordinary, ring, triples};
 use crate::random::Random;
@@ -271,6 +271,7 @@ fn imaginary_directions() {
     );
     print_imaginary("front-only, raised centre", &raised_centre(5.0));
     print_imaginary("two speakers that need eight", &eight_imaginary());
+    print_imaginary("three speakers that need nine", &nine_imaginary());
 }
 
 /// Stored layouts that another limit of the axis changes: how near their speakers stand.
