@@ -1,9 +1,8 @@
 -- Laws of a fan's parts by what the code read and computed. Assumes nothing.
 use Prim.Native.Nat.{ℕ, _+_, _≤_}
 use mathlib.Core.Path.{_≡_, refl}
-use mathlib.Core.Bool.{Bool, _&&_, _||_}
+use mathlib.Core.Bool.{Bool, _&&_}
 use mathlib.Core.List.{List, _∷_}
-use lib.Dec.{eqb}
 use lib.Ieee.{Float, binary64, sub, neg, le}
 use lib.ListN.{length, take}
 use Rattle.ieee.specs.Remainder.{remEuclidOf}
@@ -15,7 +14,7 @@ use Rattle.order.specs.Front.{sortedIn}
 use Rattle.faces.specs.Faces.{eps}
 use Rattle.faces.specs.Steps.{isOther, pointIn, heightIn}
 use Rattle.faces.proofs.Reading.{read-dot}
-use Rattle.fan.specs.Fan.{helper, basisU, adjacent}
+use Rattle.fan.specs.Fan.{helper, basisU, nextTo, adjacent}
 use Rattle.fan.specs.Steps.{isCoplanar, angleOf, spotOf, spotsOf, posOf, fanOf}
 use Rattle.fan.proofs.Fans.{fan-front}
 
@@ -37,7 +36,7 @@ module _ (flat : List Float) (u v : Vector) (p : ℕ) where
   unfolding spotOf
   spot-computed am ea er = cc
 
-pub adjacent-computed : (j k : ℕ) (l : List Spot) {pj pk : ℕ} → pj ≡ posOf j l → pk ≡ posOf k l → eqb pk (pj + 1) || eqb pj (pk + 1) ≡ adjacent j k l
+pub adjacent-computed : (j k : ℕ) (l : List Spot) {pj pk : ℕ} → pj ≡ posOf j l → pk ≡ posOf k l → nextTo pj pk ≡ adjacent j k l
 unfolding adjacent posOf
 adjacent-computed j k l ej ek = cc
 

@@ -12,7 +12,7 @@ use lib.ListN.{length, getD, set, take, replicate, length-append, length-map, le
 use lib.Seq.{take-suc, length-take-le, getD-take}
 use Rattle.lists.specs.Lists.{from, range, between, filter, every, isEmpty}
 use Rattle.lists.proofs.Ranges.{length-range, range-none, range-snoc, range-between, between-cons, between-append, length-between}
-use Rattle.lists.proofs.Tests.{and-left, and-right, every-at, empty-length}
+use Rattle.lists.proofs.Tests.{or-true, and-left, and-right, every-at, empty-length}
 use Rattle.lists.proofs.Collect.{filter-append, filter-yes, filter-no, length-filter}
 use Rattle.lists.proofs.Filled.{Gathered, gathered-none, gathered-same, gathered-more, set-filled, take-filled}
 use Rattle.lists.proofs.Search.{position-le}
@@ -79,10 +79,6 @@ module _ (n : ℕ) (flat : List Float) (i j k : ℕ) (nrm : Vector) (d : Float) 
   found-all e g = rw (← coplanar-range, ← e, g .counts, g .holds) refl
 
 -- ---- how many there are
-
-or-true : (a : Bool) → a || true ≡ true
-or-true true = refl
-or-true false = refl
 
 module _ (i j k : ℕ) where
   other-i : isOther i j k i ≡ false

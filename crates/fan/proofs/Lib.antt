@@ -1,2 +1,4 @@
 pub mod Fans
 pub mod Computed
+pub mod Rings
+pub mod Meaning

@@ -18,11 +18,11 @@ use Rattle.faces.specs.Faces.{Plane, eps, point, height}
 abbrev pub steep : Float
 steep = ofBits binary64 0x3fec_cccc_cccc_cccd
 
--- those of the points that stand at most 1e-7 under the plane
+-- those of the points that stand at most 1e-7 (`eps`) under the plane
 unfoldable pub coplanar : Points → Plane → List ℕ → List ℕ
 coplanar pts f ps = filter (λ p. le (neg eps) (height pts f p)) ps
 
--- a basis in the plane
+-- a basis in the plane. Origin of the two axes: vbap.rs line 325
 unfoldable pub helper : Vector → Vector
 helper nrm = cond (lt (abs (x nrm)) steep) (1·0 ∷ +0 ∷ +0 ∷ []) (+0 ∷ 1·0 ∷ +0 ∷ [])
 
@@ -38,11 +38,12 @@ fan pts nrm i ps =
     let am = angleIn nrm (point pts i) in
     sortedOf (map (λ p. record { angle = remEuclidOf binary64 (sub binary64 (angleIn nrm (point pts p)) am) twoPi; number = p }) ps)
 
+-- places p and q are one apart
+abbrev pub nextTo : ℕ → ℕ → Bool
+nextTo p q = eqb q (p + 1) || eqb p (q + 1)
+
 unfoldable pub adjacent : ℕ → ℕ → List Spot → Bool
-adjacent j k l =
-    let pj = position (λ s. eqb (s .number) j) l in
-    let pk = position (λ s. eqb (s .number) k) l in
-    eqb pk (pj + 1) || eqb pj (pk + 1)
+adjacent j k l = nextTo (position (λ s. eqb (s .number) j) l) (position (λ s. eqb (s .number) k) l)
 
 unfoldable pub inFan : Points → Vector → ℕ → ℕ → ℕ → List ℕ → Bool
 inFan pts nrm i j k ps =

@@ -1,2 +1,3 @@
 pub mod Fan
 pub mod Steps
+pub mod Meaning

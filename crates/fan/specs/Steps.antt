@@ -1,4 +1,5 @@
 -- What the functions of src/lib.rt answer on the way from the points' flat array to the definitions of `Fan`. Assumes nothing.
+-- Origin of 54: document 01, 40 positions and 14 imaginary points; of 53: of 54 points, all but the fan's lowest.
 use Prim.Native.Nat.{ℕ}
 use mathlib.Core.Path.{_≡_}
 use mathlib.Core.Bool.{Bool, true, _&&_}

@@ -1,4 +1,5 @@
 // The points in one plane with a face of the hull, and the one fan that they make.
+// Lengths of arrays: 40 directions (document 01, refusal 2) and 14 imaginary points (vbap.rs line 60) are 54 points, of three numbers each: 162. A fan has all of them but its lowest, 53; with a triple in one plane are all but its own three, 51.
 ghost use mathlib.Core.Path.{_≡_};
 ghost use mathlib.Core.List.{_∷_};
 ghost use Prim.Native.Nat.{_≤_, _<_};
@@ -11,11 +12,8 @@ ghost use Rattle.fan.specs.Fan.{helper, basisU, adjacent};
 ghost use Rattle.fan.specs.Steps.{isCoplanar, numbersIn, coplanarOf, below54, angleOf, spotOf, spotsOf, posOf, fanOf, fanTest};
 use order::Spot;
 
-// From there on a normal counts as along the first axis. Origin: vbap.rs line 325.
+// 3feccccccccccccd. Origin: vbap.rs line 325; from there on a normal counts as along the first axis.
 const STEEP: f64 = 0.9;
-
-// Twice PI64. Origin: vbap.rs line 335; document 01, "Number work".
-const TWO_PI: f64 = 6.283185307179586;
 
 // Whether point p is coplanar with the triple, and none of it.
 fn is_coplanar(
@@ -73,7 +71,7 @@ fn is_lowest(at: [usize; 54], m: usize, i: usize) -> bool
     true
 }
 
-// An axis that is not along the normal.
+// An axis that is not along the normal. Origin: vbap.rs line 325, the first axis or the second.
 fn helper_axis(nrm: [f64; 3]) -> [f64; 3]
     ensures { λ r. ⌜ r ≡ helper nrm ⌝ }
 {
@@ -100,18 +98,18 @@ fn ang(pts: &[f64; 162], u: [f64; 3], v: [f64; 3], p: usize) -> f64
     arctangent::atan2(vector::dot(pt, v), vector::dot(pt, u))
 }
 
-// Point p with its angle from am on.
+// Point p with its angle from am on, within a turn. Origin: vbap.rs line 335.
 fn spot(pts: &[f64; 162], u: [f64; 3], v: [f64; 3], am: f64, p: usize) -> Spot
     requires { ⌜ p < 54 ⌝ }
     ensures { λ r. ⌜ r ≡ spotOf (now (pts .entry)) u v am p ⌝ }
 {
     Spot {
-        angle: ieee::rem_euclid64(ang(pts, u, v, p) - am, TWO_PI),
+        angle: ieee::rem_euclid64(ang(pts, u, v, p) - am, trig::TWO_PI),
         number: p,
     }
 }
 
-// The points j and k and the first m of `at`, with their angles from am on. Origin of 53: of 54 points, all but i.
+// The points j and k and the first m of `at`, with their angles from am on.
 fn spots(
     pts: &[f64; 162],
     u: [f64; 3],

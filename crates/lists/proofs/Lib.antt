@@ -6,3 +6,4 @@ pub mod Filled
 pub mod Parts
 pub mod Search
 pub mod Ends
+pub mod Once
