@@ -2,7 +2,7 @@
 //! what each call leaves. The numbers beside the calls are document 01's.
 
 use crate::call_line::{Asked, Writer};
-use crate::chosen_layouts::{nine_imaginary, open_hull};
+use crate::chosen_layouts::{nine_imaginary, open_hull, ten_imaginary};
 use crate::edges::{Position, F, RIGHT, TOP};
 use crate::layout_line::Layout;
 use crate::layouts::{front, repeated, ring};
@@ -289,7 +289,7 @@ fn steps(w: &mut Writer) {
 }
 
 /// Sessions over a hull that is open at the end, where the nearest speaker plays alone, and over
-/// the one with the most imaginary speakers found.
+/// those with the most imaginary speakers found.
 fn ends(w: &mut Writer) {
     w.opens(
         &layout("open hull: the nearest speaker", &open_hull()),
@@ -318,6 +318,16 @@ fn ends(w: &mut Writer) {
         (render(1, 3, 4, 1), 0),
         (place(0, 2.5, -0.5), 0),
         (render(1, 3, 4, 4), 0),
+    ]);
+    w.end();
+    w.opens(&layout("open hull, ten imaginary", &ten_imaginary()), 1, 0);
+    w.gives(&[
+        (place(0, 0.3, 0.2), 0),
+        (render(1, 35, 3, 1), 0),
+        (place(0, -2.4, 0.6), 0),
+        (render(1, 35, 3, 4), 0),
+        (TakeBack { source: 0 }, 0),
+        (render(1, 35, 3, 7), 0),
     ]);
     w.end();
 }

@@ -618,8 +618,8 @@ pub fn eight_imaginary() -> Vec<Position> {
     ]
 }
 
-/// The layout with the most imaginary speakers that was found: one beside the zenith, two next
-/// to opposite cube diagonals.
+/// The layout with the most imaginary speakers that was found among those whose hull closes: one
+/// beside the zenith, two next to opposite cube diagonals.
 pub fn nine_imaginary() -> Vec<Position> {
     [
         [0xba9a_ad71u32, 0x3f80_0c25, 0x3a8d_b7f5],
@@ -644,6 +644,52 @@ pub fn corners() -> Vec<Position> {
 /// direction, and the corners' a second time.
 pub fn open_hull() -> Vec<Position> {
     [AXES.to_vec(), corners(), corners()].concat()
+}
+
+/// Four groups of speakers, each within 1e-6 of a corner of a tetrahedron of the cube, that lose
+/// every face of every list: ten imaginary speakers are made, and the hull is still open. Origin:
+/// searched, one group after the other, by the rule of docs/RATIONALE.md, section 2.
+const GROUPS: [[u32; 3]; 35] = [
+    [0x3f18_6edd, 0x3f18_6edd, 0x3f18_6edd],
+    [0x3f7f_fa1d, 0x3f7f_fa1a, 0x3f7f_fa1e],
+    [0x3f75_030a, 0x3f75_0310, 0x3f75_030c],
+    [0x3f71_9ec6, 0x3f71_9ec2, 0x3f71_9eca],
+    [0x3f6c_9a87, 0x3f6c_9a93, 0x3f6c_9a8a],
+    [0x3f79_a239, 0x3f79_a233, 0x3f79_a235],
+    [0x3f6a_949f, 0x3f6a_9496, 0x3f6a_9498],
+    [0x3f67_7313, 0x3f67_7314, 0x3f67_731b],
+    [0x3f21_3b69, 0x3f21_3b69, 0x3f21_3b64],
+    [0xbf25_4a0f, 0xbf25_4a0f, 0x3f25_4a0f],
+    [0xbf3d_70f6, 0xbf3d_70f3, 0x3f3d_70f2],
+    [0xbf25_56ff, 0xbf25_5700, 0x3f25_5702],
+    [0xbf72_5be1, 0xbf72_5be8, 0x3f72_5be2],
+    [0xbf79_95f7, 0xbf79_9605, 0x3f79_95fa],
+    [0xbf77_b1de, 0xbf77_b1df, 0x3f77_b1e6],
+    [0xbf65_6c9b, 0xbf65_6c95, 0x3f65_6c92],
+    [0xbf23_5e4f, 0xbf23_5e4d, 0x3f23_5e54],
+    [0xbf4d_9ecb, 0xbf4d_9ec2, 0x3f4d_9ec0],
+    [0x3f87_da81, 0xbf87_da81, 0xbf87_da81],
+    [0x3f7c_3090, 0xbf7c_3091, 0xbf7c_3095],
+    [0x3f55_f609, 0xbf55_f607, 0xbf55_f60e],
+    [0x3f15_31bb, 0xbf15_31b9, 0xbf15_31b8],
+    [0x3f57_5122, 0xbf57_511a, 0xbf57_511c],
+    [0x3f7f_f944, 0xbf7f_f94c, 0xbf7f_f947],
+    [0x3f8b_18f3, 0xbf8b_18fb, 0xbf8b_18f5],
+    [0x3f42_bd2e, 0xbf42_bd2d, 0xbf42_bd36],
+    [0x3f31_7f72, 0xbf31_7f6e, 0xbf31_7f6b],
+    [0xbf4f_7c7e, 0x3f4f_7c7e, 0xbf4f_7c7e],
+    [0xbf6f_5613, 0x3f6f_561a, 0xbf6f_5613],
+    [0xbf83_9f9f, 0x3f83_9f9d, 0xbf83_9f9f],
+    [0xbf8d_2337, 0x3f8d_2337, 0xbf8d_233a],
+    [0xbf1a_a24c, 0x3f1a_a255, 0xbf1a_a24c],
+    [0xbf5e_67af, 0x3f5e_67b0, 0xbf5e_67b8],
+    [0xbf91_3418, 0x3f91_3413, 0xbf91_3416],
+    [0xbf55_2f14, 0x3f55_2f0e, 0xbf55_2f0c],
+];
+
+/// The layout with the most imaginary speakers that was found; its hull is open at the end.
+pub fn ten_imaginary() -> Vec<Position> {
+    GROUPS.iter().map(|p| p.map(f32::from_bits)).collect()
 }
 
 /// The loop's ends beside the closed hull, and what lies next to them.
@@ -687,6 +733,11 @@ pub fn ends() -> Vec<Layout> {
             "open hull with an LFE among the corners",
             &[open_hull(), vec![[1.0, 1.0, 1.0]]].concat(),
             &[6],
+        ),
+        layout("open hull, ten imaginary", &ten_imaginary()),
+        layout(
+            "open hull, ten imaginary, without its last",
+            &ten_imaginary()[..34],
         ),
         layout(
             "closed: axes and corners once",

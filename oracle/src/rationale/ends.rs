@@ -5,7 +5,7 @@ use super::{
     best_gain, built, change, degrees, direction, print_cover, row, stored, summary, DIRECTIONS,
     HOLE, SEED,
 };
-use crate::chosen_layouts::{corners, ends, nine_imaginary, open_hull, AXES};
+use crate::chosen_layouts::{corners, ends, nine_imaginary, open_hull, ten_imaginary, AXES};
 use crate::edges::Position;
 use crate::layout_line::Layout;
 use crate::layouts::opened;
@@ -168,6 +168,16 @@ pub fn report() {
     );
     print_end("closed after nine imaginary speakers", &nine_imaginary());
     print_end("open, no candidate left", &open_hull());
+    print_end(
+        "open, no candidate left, after ten imaginary speakers",
+        &ten_imaginary(),
+    );
+    let groups = built(&ten_imaginary());
+    for (az, el) in [(17.188734, 11.459156), (45.0, 30.0), (0.0, 90.0)] {
+        let gains = row(&groups, degrees(az), degrees(el), 35);
+        println!("    it plays at ({az}, {el}): {:?}", sounding(&gains));
+    }
+    print_end("without its last speaker", &ten_imaginary()[..34]);
     open_rows();
     beside();
     copies();
