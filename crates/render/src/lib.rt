@@ -100,7 +100,9 @@ fn new_starts(s: Session, starts: Starts) -> Starts
 
 // `block` samples of each source, added to the output buffer; each start row becomes its target.
 pub fn render(s: Session, block: usize, samples: &[f32], outputs: &mut [f32]) -> Answer
+    // The program's choice: sign and payload of a gain that is a NaN, in the start rows of a hand-made layout. Every choice is a quiet NaN. Every other number is the definition's, bit for bit.
     ensures { λ r. ⌜ r ≡ answerOf s (render block (now (samples .entry)) (now (outputs .entry))) ⌝ }
+    // The program's choice: sign and payload of a ramped sample that is a NaN. Every choice is a quiet NaN. A refused render leaves every sample as it is.
     ensures { λ _. ⌜ now (outputs .exit) ≡ renderedBuffer s block (now (samples .entry)) (now (outputs .entry)) ⌝ }
 {
     let why = refusal(s, block, samples, &*outputs);

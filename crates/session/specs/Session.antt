@@ -76,7 +76,7 @@ takenBack s i =
     let n = standingCount s i in
     restood s i (n - 1) (n - 1) (+0 ∷ +0 ∷ [])
 
--- keeps only the last, +0 into every place after the first; an empty list stays as it is. The last direction is moved as it is held, a NaN of a hand-made record too
+-- keeps only the last, +0 into every place after the first; an empty list stays as it is. The last direction is copied as it is held, a NaN of a hand-made record with its bits
 unfoldable pub settled : Session → ℕ → Session
 settled s i =
     let n = standingCount s i in
@@ -95,7 +95,7 @@ target s i =
     let row = rowOf (layoutIn (s .panner)) outputs (getD (s .standing) last nan) (getD (s .standing) (last + 1) nan) in
     cond (eqb n 0) (replicate outputs +0) row
 
--- the start row of every source becomes its target, the places from outputs on unchanged
+-- the start row of every source becomes its target, the places from outputs on unchanged. Of a gain that is a NaN, in a hand-made layout, sign and payload are the program's; every choice is a quiet NaN
 unfoldable pub newStart : Session → ℕ → List Float
 newStart s i = let row = target s i ++ drop (s .panner .«num_outputs») (startRow s i) in cond (ltb i (s .sources)) row (startRow s i)
 
@@ -125,7 +125,7 @@ rampSlot s L samples i outputs o =
     ++ rampAddOf (part L outputs o) (part L samples i) (getD (startRow s i) o nan) (getD (target s i) o nan)
     ++ drop ((o + 1) * L) outputs
 
--- for each source ascending, for each slot ascending
+-- for each source ascending, for each slot ascending. Of a ramped sample that is a NaN sign and payload are the program's; every choice is a quiet NaN
 unfoldable pub mixed : Session → ℕ → List Float → List Float → List Float
 mixed s L samples outputs =
     foldl (λ out i. foldl (rampSlot s L samples i) out (range (s .panner .«num_outputs»))) outputs (range (s .sources))
