@@ -2,18 +2,17 @@
 use Prim.Native.Nat.{ℕ, _≤_, _<_}
 use mathlib.Core.Path.{_≡_, refl, sym, ap, _∙_, subst}
 use mathlib.Core.Logic.{_↔_, ⊎-elim}
-use mathlib.Core.Bool.{Bool, true, false, _&&_, _||_, not, false≢true}
-use mathlib.Core.List.{List, [], _∷_, map, List·Memᴰ, List·Memᴰ·head, List·Memᴰ·cases-cons, Memᴰ·cast}
+use mathlib.Core.Bool.{Bool, true, false, _&&_, _||_, false≢true}
+use mathlib.Core.List.{List, _∷_, map, List·Memᴰ, List·Memᴰ·head, List·Memᴰ·cases-cons, Memᴰ·cast}
 use native.Mathlib.Omega.{arith}
-use borrow.Author.Tests.{ltb-true, lt-ltb, le-ltb, eqb-true, eqb-false, ne-eqb, eq-eqb, not-true}
+use borrow.Author.Tests.{ltb-true, lt-ltb, le-ltb, eqb-true, eqb-false, ne-eqb, not-true}
 use lib.Dec.{eqb, ltb}
 use lib.ListN.{length, length-map}
-use Rattle.lists.specs.Lists.{range, filter, every, member, isEmpty}
+use Rattle.lists.specs.Lists.{range, every, member, isEmpty}
 use Rattle.lists.proofs.Tests.{and-left, and-right, both, neither, empty-length}
 use Rattle.lists.proofs.Once.{every-mem, mem-every, every-fails, mem-some, member-mem, mem-member, mem-range, mem-filter, filter-mem, position-map}
 use Rattle.vector.specs.Vector.{Points}
 use Rattle.order.specs.declared.Spot.{Spot}
-use Rattle.order.specs.Order.{sortedOf}
 use Rattle.order.proofs.Insertion.{length-sorted}
 use Rattle.faces.specs.Faces.{Plane, others}
 use Rattle.faces.specs.Steps.{isOther}

@@ -112,6 +112,17 @@ fan-once i (a ∷ (b ∷ l)) o = (
 pub fan-count : FanCount
 fan-count i ring o = record { count = fan-long i ring; once = fan-once i ring o }
 
+-- ---- places next to each other: one apart, and no further
+
+next-apart : (p q : ℕ) → nextTo p q ≡ true → (q ≡ p + 1) ⊎ (p ≡ q + 1)
+next-apart p q e = ⊎-elim (λ g. inl (eqb-true q (p + 1) g)) (λ g. inr (eqb-true p (q + 1) g)) (either (eqb q (p + 1)) (eqb p (q + 1)) e)
+
+up-next : (p q : ℕ) → q ≡ p + 1 → nextTo p q ≡ true
+up-next p q e = rw (eq-eqb q (p + 1) e)
+
+down-next : (p q : ℕ) → p ≡ q + 1 → nextTo p q ≡ true
+down-next p q e = rw (eq-eqb p (q + 1) e, or-true)
+
 -- ---- numbers next to each other in the ring
 
 -- j and k stand side by side
@@ -121,8 +132,8 @@ beside ring j k = nextTo (placed j ring) (placed k ring)
 -- in a ring of two they do
 pub beside-two : (ring : List ℕ) (j k : ℕ) → j < k → List·Memᴰ j ring → List·Memᴰ k ring → length ring ≡ 2 → beside ring j k ≡ true
 beside-two ring j k h mj mk e = elim (decLe (placed j ring) (placed k ring)) [
-  | yes g ↦ rw (eq-eqb (placed k ring) (placed j ring + 1) (omega (arith, pj .0, pk .0, apart)))
-  | no g ↦ rw (eq-eqb (placed j ring) (placed k ring + 1) (omega (arith, pj .0, pk .0)), or-true)
+  | yes g ↦ up-next (placed j ring) (placed k ring) (omega (arith, pj .0, pk .0, apart))
+  | no g ↦ down-next (placed j ring) (placed k ring) (omega (arith, pj .0, pk .0))
 ]
   where
     pj : (placed j ring < length ring) × (getD ring (placed j ring) 0 ≡ j)
@@ -136,7 +147,7 @@ beside-two ring j k h mj mk e = elim (decLe (placed j ring) (placed k ring)) [
 
 module _ (i : ℕ) (ring : List ℕ) (j k : ℕ) (o : Once ring) (h : j < k) where
   pub beside-fan : List·Memᴰ j ring → List·Memᴰ k ring → beside ring j k ≡ true → List·Memᴰ (triple i j k) (fanFrom i ring)
-  beside-fan mj mk e = ⊎-elim up down (either (eqb (placed k ring) (placed j ring + 1)) (eqb (placed j ring) (placed k ring + 1)) e)
+  beside-fan mj mk e = ⊎-elim up down (next-apart (placed j ring) (placed k ring) e)
     where
       pj : (placed j ring < length ring) × (getD ring (placed j ring) 0 ≡ j)
       pj = placed-mem ring j mj
@@ -148,14 +159,14 @@ module _ (i : ℕ) (ring : List ℕ) (j k : ℕ) (o : Once ring) (h : j < k) whe
       same : (p a b : ℕ) → getD ring p 0 ≡ a → getD ring (suc p) 0 ≡ b → min a b ≡ j → max a b ≡ k → suc p < length ring → List·Memᴰ (triple i j k) (fanFrom i ring)
       same p a b ea eb el eh m = Memᴰ·cast (cc) (fan-at i ring p m)
 
-      up : eqb (placed k ring) (placed j ring + 1) ≡ true → List·Memᴰ (triple i j k) (fanFrom i ring)
+      up : placed k ring ≡ placed j ring + 1 → List·Memᴰ (triple i j k) (fanFrom i ring)
       up g =
-          let s : placed k ring ≡ suc (placed j ring) = omega (arith, eqb-true (placed k ring) (placed j ring + 1) g) in
+          let s : placed k ring ≡ suc (placed j ring) = omega arith in
           same (placed j ring) j k (pj .1) (ap (λ (p : ℕ). getD ring p 0) (sym s) ∙ pk .1) (omega arith) (omega arith) (omega (arith, pk .0))
 
-      down : eqb (placed j ring) (placed k ring + 1) ≡ true → List·Memᴰ (triple i j k) (fanFrom i ring)
+      down : placed j ring ≡ placed k ring + 1 → List·Memᴰ (triple i j k) (fanFrom i ring)
       down g =
-          let s : placed j ring ≡ suc (placed k ring) = omega (arith, eqb-true (placed j ring) (placed k ring + 1) g) in
+          let s : placed j ring ≡ suc (placed k ring) = omega arith in
           same (placed k ring) k j (pk .1) (ap (λ (p : ℕ). getD ring p 0) (sym s) ∙ pj .1) (omega arith) (omega arith) (omega (arith, pj .0))
 
   pub fan-beside : List·Memᴰ (triple i j k) (fanFrom i ring) → beside ring j k ≡ true
@@ -176,7 +187,7 @@ module _ (i : ℕ) (ring : List ℕ) (j k : ℕ) (o : Once ring) (h : j < k) whe
           let ek : k ≡ y = omega (arith, ap (λ (t : Triple). t .k) (s .2)) in
           let pj : placed j ring ≡ s .0 = ap (λ (p : ℕ). placed p ring) ej ∙ placed-at ring (s .0) o (omega (arith, s .1)) in
           let pk : placed k ring ≡ suc (s .0) = ap (λ (p : ℕ). placed p ring) ek ∙ placed-at ring (suc (s .0)) o (s .1) in
-          rw (eq-eqb (placed k ring) (placed j ring + 1) (omega arith))
+          up-next (placed j ring) (placed k ring) (omega arith)
 
       falling : y ≤ x → beside ring j k ≡ true
       falling g =
@@ -184,4 +195,4 @@ module _ (i : ℕ) (ring : List ℕ) (j k : ℕ) (o : Once ring) (h : j < k) whe
           let ek : k ≡ x = omega (arith, ap (λ (t : Triple). t .k) (s .2)) in
           let pj : placed j ring ≡ suc (s .0) = ap (λ (p : ℕ). placed p ring) ej ∙ placed-at ring (suc (s .0)) o (s .1) in
           let pk : placed k ring ≡ s .0 = ap (λ (p : ℕ). placed p ring) ek ∙ placed-at ring (s .0) o (omega (arith, s .1)) in
-          rw (eq-eqb (placed j ring) (placed k ring + 1) (omega arith), or-true)
+          down-next (placed j ring) (placed k ring) (omega arith)

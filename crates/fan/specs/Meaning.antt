@@ -10,7 +10,6 @@ use lib.Dec.{ltb}
 use lib.ListN.{length}
 use Rattle.lists.specs.Lists.{Once, filter, every, member}
 use Rattle.vector.specs.Vector.{Points}
-use Rattle.order.specs.declared.Spot.{Spot}
 use Rattle.faces.specs.Faces.{Plane, others}
 use Rattle.fan.specs.Fan.{coplanar, fan, inFan}
 

@@ -1,8 +1,8 @@
 -- Points that all their triples see alike are divided once: the list of triplets has each kept triple once, and a triple of such points is kept where it is the fan's and the other tests pass. Assumes nothing.
-use Prim.Native.Nat.{ℕ, _≤_, _<_}
-use mathlib.Core.Path.{_≡_, refl, sym, ap, _∙_, subst}
+use Prim.Native.Nat.{ℕ, _<_}
+use mathlib.Core.Path.{_≡_, refl, sym, ap, _∙_}
 use mathlib.Core.Bool.{Bool, true, false, _&&_, _||_, not, cond}
-use mathlib.Core.List.{List, _∷_, map, List·Memᴰ, Memᴰ·cast, Memᴰ·map, Memᴰ·of-map, List·Permᴰ}
+use mathlib.Core.List.{List, _∷_, map, List·Memᴰ, Memᴰ·cast, Memᴰ·map, Memᴰ·of-map}
 use native.Mathlib.Omega.{arith}
 use lib.Ieee.{lt}
 use lib.ListN.{length, getD, length-map}
@@ -17,8 +17,8 @@ use Rattle.faces.specs.Faces.{tiny, leastDistance, Plane, point, others, rawNor
 use Rattle.fan.specs.Meaning.{Triple, Among, isOf, fanFrom, inPlane, fanKeeps, SeenAlike}
 use Rattle.fan.proofs.Rings.{fan-among, fan-count}
 use Rattle.fan.proofs.Meaning.{among-members, fan-meaning}
-use Rattle.hull.specs.Triplets.{Triplet, Verdict, skip, open-hull, keep, determinantOf, verdictBy, verdict, tripletsOf}
-use Rattle.hull.specs.Meaning.{Before, by-i, by-j, by-k, Keeps}
+use Rattle.hull.specs.Triplets.{Triplet, skip, open-hull, keep, determinantOf, verdictBy, verdict, tripletsOf}
+use Rattle.hull.specs.Meaning.{Before, by-i, by-j, by-k}
 use Rattle.hull.specs.Divided.{outwardPlane, otherTests, numbers, keptOf, DividedOnce, NotTwice}
 use Rattle.hull.proofs.Verdicts.{tripletAt}
 use Rattle.hull.proofs.Meaning.{kept-meaning}

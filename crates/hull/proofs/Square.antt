@@ -1,8 +1,8 @@
 -- The four corners of a square are seen alike and divided once: each of their four triples, by computing. Assumes nothing.
 use Prim.Native.Nat.{ℕ, _<_}
 use mathlib.Core.Path.{_≡_, refl, sym, ap, _∙_, subst}
-use mathlib.Core.Bool.{true, false, false≢true}
-use mathlib.Core.List.{List, [], _∷_, map, List·Memᴰ, List·Memᴰ·not-nil, List·Permᴰ}
+use mathlib.Core.Bool.{true, false≢true}
+use mathlib.Core.List.{List, [], _∷_, map, List·Memᴰ·not-nil}
 use lib.IntN.{pos}
 use lib.ListN.{length}
 use lib.Ieee.{Float, fin, round, neg, add, sub, mul, div, rem, lt, le, eq, ofBits}
@@ -17,10 +17,9 @@ use Rattle.ieee.specs.Remainder.{remEuclidOf}
 use Rattle.root.specs.Root.{sqrtOf}
 use Rattle.trig.specs.Series.{coefficients, sumOf}
 use Rattle.arctangent.specs.Arctangent.{arctangentCoefficients, halvedOf, eightfoldOf, atanOf, ratioOf, firstQuadrantOf, withSignOfX, withSignOfY, atan2Of}
-use Rattle.vector.specs.Vector.{Vector, minor, crossOf, dotIn, dotOf, lessOf, overOf, negatedOf, lengthOf}
-use Rattle.order.specs.declared.Spot.{Spot}
+use Rattle.vector.specs.Vector.{minor, crossOf, dotIn, dotOf, lessOf, overOf, negatedOf, lengthOf}
 use Rattle.order.specs.Order.{insertOf, sortedOf}
-use Rattle.faces.specs.Faces.{Plane, point, others, height, rawNormal, planeThrough, allBelow, allAbove, outward}
+use Rattle.faces.specs.Faces.{Plane, others, height, rawNormal, planeThrough, allBelow, allAbove, outward}
 use Rattle.faces.specs.Steps.{planeOf}
 use Rattle.fan.specs.Fan.{coplanar, helper, basisU, angleIn, fan}
 use Rattle.fan.specs.Meaning.{Triple, Among, fanFrom, inPlane, ringBy, SeenAlike}
