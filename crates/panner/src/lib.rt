@@ -19,7 +19,7 @@ pub enum Kind {
 }
 
 // The panner of the source (document 01: a layout). Of each array the first places are used, as many as its count says.
-// Slots, point numbers and counts are bytes. In a record that `malformed` accepts no count is above 80, and of the numbers that its kind and counts reach no slot is above 39 and no point above 53.
+// Slots, point numbers and counts are bytes. In a record that is not malformed no count is above 80, and of the numbers that its kind and counts reach no slot is above 39 and no point above 53.
 pub struct VbapPanner {
     pub num_outputs: u8,
     pub kind: Kind,

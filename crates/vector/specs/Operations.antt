@@ -1,5 +1,5 @@
 -- Products of vectors, determinants and the rows of an inverse, written once over the operations that they use. Crate vector takes floats of a format for them, and Pulkki.antt the exact numbers of a commutative ring: what is shown there is shown of these definitions.
--- Source lines 167 to 177 (cross and dot), 238 to 249 (a pair's determinant and inverse) and 344 to 355 (a triplet's). Assumes nothing.
+-- Source lines 165 to 175 (cross and dot), 239 to 248 (a pair's determinant and inverse) and 344 to 355 (a triplet's). Assumes nothing.
 
 pub record Operations (R : Type 0) : Type 0 where
   pub add : R → R → R
