@@ -84,7 +84,7 @@ fn beside(is_negative: bool, places: u32) -> usize
     places as usize + 1
 }
 
-// So many steps of 10^-places, with a sign, at the right of a column. Origin of 6: the most digits of crate decimal.
+// So many steps of 10^-places, with a sign, at the right of a column. Origin of 6: the most digits of crate demo_decimal, with which every angle in radians and every gain is shown.
 fn steps(is_negative: bool, n: u64, places: u32, width: usize)
     requires { ⌜ (0 < places) × (places ≤ 6) ⌝ }
 {

@@ -1,7 +1,6 @@
 // A row of a hull: the triplet whose least gain is greatest, its gains in their slots, scaled to power 1. Document 01, "A row" (Hull); source lines 513 to 581.
 // Origin of the arrays' lengths: document 01, "Returned numbers" (malformed): 40 real points with 3 numbers each, 120; 80 triplets with 3 point numbers each, 240, and an inverse of 3 times 3 numbers each, 720;
 // 14 imaginary points with 40 neighbours each, 560. Entry e of the inverse of triplet t stands at e * 80 + t, so row r, three entries, starts at r * 240 + t, and the next entries are 80 and 160 further.
-// Free to the program: the sign and payload of a NaN in a row of a layout made by hand. Every choice is a NaN, and a quiet one, since every gain is computed. A layout from `new` gives none (crate row_sound).
 ghost use mathlib.Core.Path.{_≡_};
 ghost use mathlib.Core.Bool.{true};
 ghost use mathlib.Core.List.{[], _∷_};
@@ -150,6 +149,7 @@ fn nearest(out: &mut [f32], slots: &[u8], dirs: [f32; 120], n: usize, s: [f32; 3
 // ---- the row
 
 // The row of a hull whose counts are within its arrays, from the record's fields; every place of out is one of the row's.
+// Free to the program: the sign and payload of a NaN in a row of a layout made by hand. Every choice is a NaN, and a quiet one, since every gain is computed. A layout from `new` gives none (crate row_sound).
 pub fn hull_row(
     slots: [u8; 40],
     dirs: [f32; 120],

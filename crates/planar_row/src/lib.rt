@@ -1,6 +1,5 @@
 // A row of a planar layout: document 01, "A row" (Planar); source lines 80 to 93 and 460 to 511.
 // Origin of 40, the length of the arrays of pairs and slots: document 01, "Returned numbers" (malformed: pairs over 40, planar slots over 40).
-// Free to the program: the sign and payload of a NaN in a row of a layout made by hand. Every choice is a NaN, and a quiet one, since every gain is computed. A layout from `new` gives none (crate row_sound).
 ghost use mathlib.Core.Path.{_≡_};
 ghost use Prim.Native.Nat.{_≤_, _<_};
 ghost use lib.ListN.{length, set, replicate, take};
@@ -260,6 +259,7 @@ fn pair_row(
 }
 
 // The row of the first num_pairs pairs and num_slots slots in all places of out.
+// Free to the program: the sign and payload of a NaN in a row of a layout made by hand. Every choice is a NaN, and a quiet one, since every gain is computed. A layout from `new` gives none (crate row_sound).
 pub fn planar_row(
     pairs: [PlanarPair; 40],
     num_pairs: usize,

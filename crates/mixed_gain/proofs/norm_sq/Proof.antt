@@ -1,6 +1,8 @@
--- `mixed_gain::norm_sq` meets its contract: the operations are the definition's, in its order. Assumes nothing.
+-- `mixed_gain::norm_sq` meets its contract: the operations are the definition's, in its order, with the clamped dot product. Assumes nothing.
+use mathlib.Core.Path.{ap}
 use borrow.Author.Needs.{needs}
-use lib.Ieee.{ofBits}
+use lib.Ieee.{Float, binary32, add, sub, mul, ofBits}
+use Rattle.ieee.specs.Values.{1·0, 2·0}
 use Rattle.mixed_gain.specs.Mixed.{normSqOf}
 use Rattle.mixed_gain.proofs.norm_sq.Statement.{statement}
 use Rattle.mixed_gain.proofs.norm_sq.Tie as tie
@@ -10,7 +12,10 @@ clamp-requires c κs = search needs
 
 returns : tie.Need-returns
 unfolding normSqOf ofBits
-returns c = rw (c .clamp .ensures)
+returns c =
+    let t = c .before .args .t in
+    let u = sub binary32 1·0 t in
+    ap (λ (d : Float). add binary32 (add binary32 (mul binary32 u u) (mul binary32 t t)) (mul binary32 (mul binary32 (mul binary32 2·0 t) u) d)) (c .clamp .ensures)
 
 pub norm-sq-spec : {M : Type 1} → statement M
 norm-sq-spec = tie.close (tie.spec clamp-requires returns)

@@ -1,6 +1,10 @@
--- `mixed_gain::normalized_lerp_gain` meets its contract: the operations are the definition's, in its order. Assumes nothing.
+-- `mixed_gain::normalized_lerp_gain` meets its contract: the operations are the definition's, in its order, with the clamped t. Assumes nothing.
+use mathlib.Core.Path.{ap}
 use borrow.Author.Needs.{needs}
-use Rattle.mixed_gain.specs.Mixed.{normalizedLerpGainOf}
+use lib.Ieee.{Float, binary32, add, sub, mul, div}
+use Rattle.ieee.specs.Order.{maxOf}
+use Rattle.root.specs.Root.{sqrtOf}
+use Rattle.mixed_gain.specs.Mixed.{leastMixNormSq, normSqOf, normalizedLerpGainOf}
 use Rattle.mixed_gain.proofs.normalized_lerp_gain.Statement.{statement}
 use Rattle.mixed_gain.proofs.normalized_lerp_gain.Tie as tie
 
@@ -18,7 +22,10 @@ sqrt32-requires c κs = search needs
 
 returns : tie.Need-returns
 unfolding normalizedLerpGainOf
-returns c = rw (c .sqrt32 .ensures, c .before .max32 .ensures, c .before .before .norm-sq .ensures, c .before .before .before .clamp .ensures)
+returns c =
+    let a = c .before .before .before .before .args in
+    rw (c .sqrt32 .ensures, c .before .max32 .ensures, c .before .before .norm-sq .ensures)
+    (ap (λ (t : Float). div binary32 (add binary32 (a .from) (mul binary32 (sub binary32 (a .to) (a .from)) t)) (sqrtOf binary32 (maxOf (normSqOf t (a .dot)) leastMixNormSq))) (c .before .before .before .clamp .ensures))
 
 pub normalized-lerp-gain-spec : {M : Type 1} → statement M
 normalized-lerp-gain-spec =
