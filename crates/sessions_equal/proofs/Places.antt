@@ -42,7 +42,7 @@ pub numbers-length : (ds : List Direction) → length (numbersIn ds) ≡ length 
 unfolding numbersIn
 numbers-length ds = length-rows 2 numbersOf ds (two-wide ds)
 
-numbers-snoc : (ds : List Direction) (d : Direction) → numbersIn (ds ++ d ∷ []) ≡ numbersIn ds ++ d .azimuth ∷ d .elevation ∷ []
+numbers-snoc : (ds : List Direction) (d : Direction) → numbersIn (ds ++ d ∷ []) ≡ numbersIn ds ++ numbersOf d
 unfolding numbersIn
 numbers-snoc ds d = flatMap-snoc numbersOf ds d
 
