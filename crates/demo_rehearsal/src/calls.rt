@@ -1,5 +1,6 @@
 // Calls on a session: what each one answers, and what the session holds then.
 ghost use Prim.Native.Nat.{_≤_, _<_};
+ghost use Rattle.history.specs.History.{depth};
 use crate::angles::radians;
 use crate::columns::blanks;
 use crate::columns::byte;
@@ -11,8 +12,13 @@ use crate::columns::whole;
 use crate::report::count;
 use crate::rows::gains_of;
 use crate::words::answer;
+use mix::ROW;
+use mix::Starts;
 use session::Answer;
 use session::Session;
+use standing::DEPTH;
+use standing::Standing;
+use standing::WIDTH;
 
 // Width of a call's name. Origin: a choice of this report.
 const CALL: usize = 34;
@@ -113,12 +119,12 @@ pub fn render(s: Session) -> Session {
 // ---- what a session holds
 
 // The standing directions of a source, as they are held.
-fn directions(standing: &[f32; 256], source: usize, n: usize)
-    requires { ⌜ (source < 8) × (n ≤ 16) ⌝ }
+fn directions(standing: &Standing, source: usize, n: usize)
+    requires { ⌜ (source < 8) × (n ≤ depth) ⌝ }
 {
     let mut j: usize = 0;
     while j < n {
-        let k = source * 32 + j * 2;
+        let k = source * WIDTH + j * 2;
         text(b"    direction ");
         float(standing[k], 6, 11);
         float(standing[k + 1], 6, 11);
@@ -127,13 +133,13 @@ fn directions(standing: &[f32; 256], source: usize, n: usize)
     }
 }
 
-// The start row of a source. Origin of 40: at most so many outputs.
-fn start_row(starts: &[f32; 320], source: usize)
+// The start row of a source.
+fn start_row(starts: &Starts, source: usize)
     requires { ⌜ source < 8 ⌝ }
 {
     let all = &starts[..];
-    let from = source * 40;
-    let to = from + 40;
+    let from = source * ROW;
+    let to = from + ROW;
     text(b"    start row");
     gains_of(&all[from..to], 13);
 }
@@ -150,7 +156,7 @@ pub fn holds(s: Session) {
         text(b": standing directions");
         byte(counts[i], 3);
         end();
-        directions(&standing, i, count(counts[i], 16));
+        directions(&standing, i, count(counts[i], DEPTH as usize));
         start_row(&starts, i);
         i += 1;
     }

@@ -2,7 +2,10 @@
 ghost use Prim.Native.Nat.{_≤_};
 use crate::Outcome;
 use crate::given::read_counts;
+use mix::GAINS;
 use session::Session;
+use standing::Counts;
+use standing::PLACES;
 use test_call_words::places::first_other;
 use test_call_words::places::read_places;
 use test_call_words::sums::record_sum;
@@ -13,7 +16,7 @@ use test_record_words::words::read_byte;
 use test_record_words::words::read_whole;
 
 // The first count that is another, or 8.
-fn first_count(got: [u8; 8], told: [u8; 8]) -> usize
+fn first_count(got: Counts, told: Counts) -> usize
     ensures { λ r. ⌜ r ≤ 8 ⌝ }
 {
     let mut i: usize = 0;
@@ -39,7 +42,7 @@ fn floats_outcome(s: Session, bits: &[u64], start_bits: &[u64]) -> Outcome {
     let standing = s.standing;
     let starts = s.starts;
     let place = first_other(&standing, bits);
-    if place < 256 {
+    if place < PLACES {
         return Outcome::Standing(place, pattern32(standing[place]));
     }
     start_outcome(&starts, start_bits)
@@ -73,8 +76,8 @@ fn fields_outcome(
 // A session against the words of a line, from the sum of the answers on.
 pub fn check_end(line: &[u8], w: Walk, s: Session, sum: u64) -> Outcome {
     let mut counts = [0u8; 8];
-    let mut bits = [0u64; 256];
-    let mut start_bits = [0u64; 320];
+    let mut bits = [0u64; PLACES];
+    let mut start_bits = [0u64; GAINS];
     let told = read_whole(line, w);
     let after_sum = told.walk;
     let record = read_whole(line, after_sum);

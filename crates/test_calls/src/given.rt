@@ -1,8 +1,10 @@
 // What a list of calls begins with: the arguments of `open`, or a session made by hand.
 ghost use Prim.Native.Nat.{_≤_};
+use mix::GAINS;
 use panner::VbapPanner;
 use session::Session;
 use session_open::Opened;
+use standing::PLACES;
 use test_call_words::places::read_places;
 use test_call_words::places::to_floats;
 use test_record_words::record::Record;
@@ -98,10 +100,10 @@ fn read_recounted(line: &[u8], w: Walk) -> Record {
 
 pub fn read_session(line: &[u8], w: Walk) -> GivenSession {
     let mut counts = [0u8; 8];
-    let mut bits = [0u64; 256];
-    let mut start_bits = [0u64; 320];
-    let mut standing = [0.0f32; 256];
-    let mut starts = [0.0f32; 320];
+    let mut bits = [0u64; PLACES];
+    let mut start_bits = [0u64; GAINS];
+    let mut standing = [0.0f32; PLACES];
+    let mut starts = [0.0f32; GAINS];
     let r = read_recounted(line, w);
     let panner = r.panner;
     let after_record = r.walk;
