@@ -28,8 +28,9 @@ pub fn layout(name: &str) -> Layout {
 pub fn record(layout: &Layout) -> Record {
     let given = layout.opened();
     let mut r = Record::empty();
-    let answer = boundary::new(&layout.numbers, &layout.lfe, &mut r);
-    assert_eq!(answer, (given.refusal.into(), given.imaginary));
+    let mut imaginary = 0;
+    let number = boundary::new(&layout.numbers, &layout.lfe, &mut imaginary, &mut r);
+    assert_eq!((number, imaginary), (given.refusal.into(), given.imaginary));
     let same = panner(&r).words() == given.panner.words();
     assert!(same, "{}: records differ", layout.name);
     r
@@ -40,7 +41,7 @@ fn line(name: &str, aim: Aim) {
     let (numbers, lfe) = (&layout.numbers[..], &layout.lfe[..]);
     let positions = &triples(numbers)[..];
     let ours = |r: &mut Record| {
-        boundary::new(black_box(numbers), black_box(lfe), black_box(r));
+        boundary::new(black_box(numbers), black_box(lfe), &mut 0, black_box(r));
     };
     let standins = |_: &mut Record| {
         black_box(WithStandins::new(black_box(positions), black_box(lfe)));

@@ -3,7 +3,7 @@
 use std::hint::black_box;
 
 use driver::boundary::{self, Session};
-use driver::records::session;
+use driver::records::{session, STARTS};
 use oracle::layouts::{triples, MAX_SOURCES};
 use oracle::random::Random;
 use oracle::record::MAX_OUTPUTS;
@@ -40,9 +40,10 @@ impl Sides {
     fn new(d: &Directions) -> Sides {
         let l = layout(NAME);
         let mut ours = Session::empty();
-        let answer = boundary::open(&l.numbers, &l.lfe, MAX_SOURCES, &mut ours);
+        let mut made = 0;
+        let answer = boundary::open(&l.numbers, &l.lfe, MAX_SOURCES, &mut made, &mut ours);
         let (number, imaginary, theirs) = open(&l.numbers, &l.lfe, MAX_SOURCES);
-        assert_eq!(answer, (number.into(), imaginary));
+        assert_eq!((answer, made), (number.into(), imaginary));
         let mut theirs = theirs.expect("an accepted layout");
         for i in 0..MAX_SOURCES {
             assert_eq!(boundary::place(&mut ours, i, d.az[i], d.el[i]), 0);
@@ -59,7 +60,7 @@ impl Sides {
     }
 
     fn start_at(&mut self, starts: &Starts) {
-        self.ours.starts = *starts;
+        self.ours.floats[STARTS].copy_from_slice(starts);
         self.standins.starts = *starts;
         self.libm.starts = *starts;
     }
@@ -118,10 +119,11 @@ fn before(moving: bool, made: &Starts, panner: &WithStandins, samples: &[f32]) -
     let mut first = Sides::new(&directions(MAX_SOURCES, 0.0, HIGHEST));
     first.start_at(made);
     let second = rendered(&first, panner, samples);
-    let targets = second.ours.starts;
-    assert!(made.iter().zip(&targets).all(|(a, b)| a != b));
+    let targets = &second.ours.floats[STARTS];
+    assert!(made.iter().zip(targets).all(|(a, b)| a != b));
     let third = rendered(&second, panner, samples);
-    assert!(third.ours.starts.iter().zip(&targets).all(|(a, b)| a == b));
+    let starts = &third.ours.floats[STARTS];
+    assert!(starts.iter().zip(targets).all(|(a, b)| a == b));
     if moving {
         first
     } else {
@@ -146,13 +148,13 @@ fn block(work: &str, moving: bool, aim: Aim) {
     let (samples, made) = inputs();
     let samples = &samples[..];
     let mut lent = before(moving, &made, &standins, samples);
-    let begin = |starts: &mut Starts| {
+    let begin = |starts: &mut [f32]| {
         if moving {
-            *starts = made;
+            starts.copy_from_slice(&made);
         }
     };
     let ours = |s: &mut Sides| {
-        begin(&mut s.ours.starts);
+        begin(&mut s.ours.floats[STARTS]);
         boundary::render(&mut s.ours, MAX_BLOCK, black_box(samples), &mut s.outputs);
     };
     let standins = |s: &mut Sides| {
@@ -221,6 +223,14 @@ fn oracle_place_take_back(s: &mut OracleSession, d: &Directions) {
     }
 }
 
+/// The same with a call for each, the session in and out each time.
+fn place_and_take_back(s: &mut Session, d: &Directions) {
+    for (az, el) in d.az.iter().zip(&d.el) {
+        assert_eq!(boundary::place(s, 0, *az, *el), 0);
+        assert_eq!(boundary::take_back(s, 0), 0);
+    }
+}
+
 fn settle(s: &mut Session, _: &Directions) {
     assert_eq!(boundary::settle(s, 0), 0);
 }
@@ -240,6 +250,8 @@ pub fn lines() {
     block_of_record("render standing still, the oracle's record, µs");
     let pair = "place and take back, the oracle's record, ns";
     calls(pair, DIRECTIONS, place_take_back, oracle_place_take_back);
+    let each = "place, then take back, in and out each time, ns";
+    calls(each, DIRECTIONS, place_and_take_back, oracle_place_take_back);
     calls("settle, the oracle's record, ns", 1, settle, oracle_settle);
     let bytes = [size_of::<Session>(), size_of::<OracleSession>()];
     let [ours, theirs] = bytes.map(|n| vec![n as f64]);

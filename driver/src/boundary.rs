@@ -1,209 +1,298 @@
-//! The functions of crate `boundary`, each bound by its signature in Rust.
+//! The functions of crate `boundary`: those of `include/panner.h`, and the number work of whole
+//! arrays. A slice crosses as its pointer and its length; a record and a session as two arrays.
 
-/// A call of a function of the static library, from the parameters of the function in Rust around it. A slice crosses as its
-/// pointer and its length, a record as its ten arrays, lent by `&` or handed out by `&mut`, a session as its record, which is
-/// lent, its sources and its three other arrays, a fresh one as pointers to all of these, and another reference as its
-/// pointer. The first two lists grow as the parameters are used up: the types in C, and what is passed.
-macro_rules! call {
-    ([$($types:ty,)*] [$($passed:expr,)*] () $rt:ident $($answer:ty)?) => {{
-        extern "C" {
-            fn $rt($(_: $types),*) $(-> $answer)?;
-        }
-        unsafe { $rt($($passed),*) }
-    }};
-    ($types:tt $passed:tt ($x:ident: &[$t:ty], $($rest:tt)*) $($rt:tt)*) => {
-        call!(@ $types $passed [*const $t, usize,] [$x.as_ptr(), $x.len(),] ($($rest)*) $($rt)*)
-    };
-    ($types:tt $passed:tt ($x:ident: &mut [$t:ty], $($rest:tt)*) $($rt:tt)*) => {
-        call!(@ $types $passed [*mut $t, usize,] [$x.as_mut_ptr(), $x.len(),] ($($rest)*) $($rt)*)
-    };
-    ($types:tt $passed:tt ($x:ident: &Record, $($rest:tt)*) $($rt:tt)*) => {
-        call!(@record const ($x) $types $passed ($($rest)*) $($rt)*)
-    };
-    ($types:tt $passed:tt ($x:ident: &mut Record, $($rest:tt)*) $($rt:tt)*) => {
-        call!(@record mut ($x) $types $passed ($($rest)*) $($rt)*)
-    };
-    ($types:tt $passed:tt ($x:ident: &mut Session, $($rest:tt)*) $($rt:tt)*) => {
-        call!(@record const ($x.record) $types $passed (@session [u8] [$x.sources] $x, $($rest)*) $($rt)*)
-    };
-    ($types:tt $passed:tt ($x:ident: &mut Fresh, $($rest:tt)*) $($rt:tt)*) => {
-        call!(@record mut ($x.record) $types $passed (@session [*mut u8] [&mut $x.sources] $x, $($rest)*) $($rt)*)
-    };
-    ($types:tt $passed:tt (@session [$($type:tt)*] [$($sources:tt)*] $x:ident, $($rest:tt)*) $($rt:tt)*) => {
-        call!(@ $types $passed
-            [$($type)*, *mut [u8; 8], *mut [f32; 256], *mut [f32; 320],]
-            [$($sources)*, &mut $x.counts, &mut $x.standing, &mut $x.starts,]
-            ($($rest)*) $($rt)*)
-    };
-    ($types:tt $passed:tt ($x:ident: &mut $t:ty, $($rest:tt)*) $($rt:tt)*) => {
-        call!(@ $types $passed [*mut $t,] [$x,] ($($rest)*) $($rt)*)
-    };
-    ($types:tt $passed:tt ($x:ident: $t:ty, $($rest:tt)*) $($rt:tt)*) => {
-        call!(@ $types $passed [$t,] [$x,] ($($rest)*) $($rt)*)
-    };
-    (@record $access:tt ($($r:tt)*) $types:tt $passed:tt $($rest:tt)*) => {
-        call!(@ $types $passed
-            [
-                *$access [u8; 8],
-                *$access [f32; 240],
-                *$access [u8; 120],
-                *$access [u8; 40],
-                *$access [u8; 40],
-                *$access [f32; 120],
-                *$access [u8; 240],
-                *$access [f32; 720],
-                *$access [u8; 14],
-                *$access [u8; 560],
-            ]
-            [
-                &raw $access $($r)*.head,
-                &raw $access $($r)*.pair_numbers,
-                &raw $access $($r)*.pair_bytes,
-                &raw $access $($r)*.slots,
-                &raw $access $($r)*.pt_out,
-                &raw $access $($r)*.pt_dir,
-                &raw $access $($r)*.idx,
-                &raw $access $($r)*.inv,
-                &raw $access $($r)*.num_nbrs,
-                &raw $access $($r)*.imag_nbrs,
-            ]
-            $($rest)*)
-    };
-    (@ [$($types:tt)*] [$($passed:tt)*] [$($type:tt)*] [$($pass:tt)*] $($rest:tt)*) => {
-        call!([$($types)* $($type)*] [$($passed)* $($pass)*] $($rest)*)
-    };
-}
+/// Places of a record and of a session. Origin: `include/panner.h`.
+pub const RECORD_BYTES: usize = 1022;
+pub const RECORD_FLOATS: usize = 1080;
+pub const SESSION_BYTES: usize = 1031;
+pub const SESSION_FLOATS: usize = 1656;
 
-/// Functions of the static library under their names in Rust.
-macro_rules! bind {
-    ($($(#[$doc:meta])* $vis:vis fn $name:ident($($parameters:tt)*) $(-> $answer:ty)? = $rt:ident;)*) => {$(
-        $(#[$doc])*
-        $vis fn $name($($parameters)*) $(-> $answer)? {
-            call!([] [] ($($parameters)*,) $rt $($answer)?)
-        }
-    )*};
+extern "C" {
+    fn panner_narrow_all(src: *const f64, n: usize, dst: *mut f32, m: usize);
+    fn panner_sqrt32_all(src: *const f32, n: usize, dst: *mut f32, m: usize);
+    fn panner_sqrt64_all(src: *const f64, n: usize, dst: *mut f64, m: usize);
+    fn panner_sin_cos_all(
+        src: *const f64,
+        n: usize,
+        sin: *mut f64,
+        m: usize,
+        cos: *mut f64,
+        k: usize,
+    );
+    fn panner_atan2_all(
+        y: *const f64,
+        n: usize,
+        x: *const f64,
+        m: usize,
+        dst: *mut f64,
+        k: usize,
+    );
+    fn panner_normalized_lerp_gain(from: f32, to: f32, dot: f32, t: f32) -> f32;
+    fn panner_normalized_lerp_gain_all(
+        from: *const f32,
+        from_length: usize,
+        to: *const f32,
+        to_length: usize,
+        dot: *const f32,
+        dot_length: usize,
+        t: *const f32,
+        t_length: usize,
+        dst: *mut f32,
+        dst_length: usize,
+    );
+    fn panner_ramp_add(dst: *mut f32, n: usize, src: *const f32, m: usize, g0: f32, g1: f32);
+    fn panner_new(
+        positions: *const f32,
+        numbers: usize,
+        lfe: *const usize,
+        lfe_length: usize,
+        imaginary: *mut usize,
+        bytes: *mut u8,
+        floats: *mut f32,
+    ) -> u32;
+    fn panner_num_outputs(bytes: *const u8, floats: *const f32, count: *mut usize) -> u32;
+    fn panner_gains(
+        bytes: *const u8,
+        floats: *const f32,
+        az: f32,
+        el: f32,
+        out: *mut f32,
+        length: usize,
+    ) -> u32;
+    fn panner_gains_all(
+        bytes: *const u8,
+        floats: *const f32,
+        az: *const f32,
+        az_length: usize,
+        el: *const f32,
+        el_length: usize,
+        width: usize,
+        out: *mut f32,
+        length: usize,
+    ) -> u32;
+    fn panner_open(
+        positions: *const f32,
+        numbers: usize,
+        lfe: *const usize,
+        lfe_length: usize,
+        sources: usize,
+        imaginary: *mut usize,
+        bytes: *mut u8,
+        floats: *mut f32,
+    ) -> u32;
+    fn panner_place(bytes: *mut u8, floats: *mut f32, source: usize, az: f32, el: f32) -> u32;
+    fn panner_take_back(bytes: *mut u8, floats: *mut f32, source: usize) -> u32;
+    fn panner_settle(bytes: *mut u8, floats: *mut f32, source: usize) -> u32;
+    fn panner_render(
+        bytes: *mut u8,
+        floats: *mut f32,
+        block: usize,
+        samples: *const f32,
+        samples_length: usize,
+        outputs: *mut f32,
+        outputs_length: usize,
+    ) -> u32;
+    fn panner_place_take_back_all(
+        bytes: *mut u8,
+        floats: *mut f32,
+        source: usize,
+        az: *const f32,
+        az_length: usize,
+        el: *const f32,
+        el_length: usize,
+    ) -> u32;
 }
 
 // ---- numbers
 
-bind! {
-    pub fn narrow_all(src: &[f64], dst: &mut [f32]) = rt_narrow_all;
-    pub fn sqrt32_all(src: &[f32], dst: &mut [f32]) = rt_sqrt32_all;
-    pub fn sqrt64_all(src: &[f64], dst: &mut [f64]) = rt_sqrt64_all;
-    pub fn sin_cos_all(src: &[f64], sin: &mut [f64], cos: &mut [f64]) = rt_sin_cos_all;
-    pub fn atan2_all(y: &[f64], x: &[f64], dst: &mut [f64]) = rt_atan2_all;
+pub fn narrow_all(src: &[f64], dst: &mut [f32]) {
+    unsafe { panner_narrow_all(src.as_ptr(), src.len(), dst.as_mut_ptr(), dst.len()) }
+}
+
+pub fn sqrt32_all(src: &[f32], dst: &mut [f32]) {
+    unsafe { panner_sqrt32_all(src.as_ptr(), src.len(), dst.as_mut_ptr(), dst.len()) }
+}
+
+pub fn sqrt64_all(src: &[f64], dst: &mut [f64]) {
+    unsafe { panner_sqrt64_all(src.as_ptr(), src.len(), dst.as_mut_ptr(), dst.len()) }
+}
+
+pub fn sin_cos_all(src: &[f64], sin: &mut [f64], cos: &mut [f64]) {
+    let (s, c) = (sin.as_mut_ptr(), cos.as_mut_ptr());
+    unsafe { panner_sin_cos_all(src.as_ptr(), src.len(), s, sin.len(), c, cos.len()) }
+}
+
+pub fn atan2_all(y: &[f64], x: &[f64], dst: &mut [f64]) {
+    let to = dst.as_mut_ptr();
+    unsafe { panner_atan2_all(y.as_ptr(), y.len(), x.as_ptr(), x.len(), to, dst.len()) }
 }
 
 // ---- the mixed gain and the ramp
 
-bind! {
-    pub fn normalized_lerp_gain(from: f32, to: f32, dot: f32, t: f32) -> f32 = rt_normalized_lerp_gain;
-    pub fn normalized_lerp_gain_all(from: &[f32], to: &[f32], dot: &[f32], t: &[f32], dst: &mut [f32])
-        = rt_normalized_lerp_gain_all;
-    pub fn ramp_add(dst: &mut [f32], src: &[f32], g0: f32, g1: f32) = rt_ramp_add;
+pub fn normalized_lerp_gain(from: f32, to: f32, dot: f32, t: f32) -> f32 {
+    unsafe { panner_normalized_lerp_gain(from, to, dot, t) }
+}
+
+pub fn normalized_lerp_gain_all(from: &[f32], to: &[f32], dot: &[f32], t: &[f32], dst: &mut [f32]) {
+    unsafe {
+        panner_normalized_lerp_gain_all(
+            from.as_ptr(),
+            from.len(),
+            to.as_ptr(),
+            to.len(),
+            dot.as_ptr(),
+            dot.len(),
+            t.as_ptr(),
+            t.len(),
+            dst.as_mut_ptr(),
+            dst.len(),
+        )
+    }
+}
+
+pub fn ramp_add(dst: &mut [f32], src: &[f32], g0: f32, g1: f32) {
+    let to = dst.as_mut_ptr();
+    unsafe { panner_ramp_add(to, dst.len(), src.as_ptr(), src.len(), g0, g1) }
 }
 
 // ---- layouts
 
-/// A record as it crosses the boundary. The head is the outputs, the kind as a number, the mono slot, and the counts of
-/// pairs, slots, real points, triplets and imaginary points. A pair has six numbers, start, gap and the law's four, and
-/// three bytes, both slots and 1 for an inverse or 0 for the crossfade. Entry e of the inverse of triplet t stands at
-/// e * 80 + t, neighbour j of imaginary point k at k * 40 + j.
+/// A record as it crosses the boundary; `records` has the places.
 #[derive(Clone)]
 pub struct Record {
-    pub head: [u8; 8],
-    pub pair_numbers: [f32; 240],
-    pub pair_bytes: [u8; 120],
-    pub slots: [u8; 40],
-    pub pt_out: [u8; 40],
-    pub pt_dir: [f32; 120],
-    pub idx: [u8; 240],
-    pub inv: [f32; 720],
-    pub num_nbrs: [u8; 14],
-    pub imag_nbrs: [u8; 560],
+    pub bytes: [u8; RECORD_BYTES],
+    pub floats: [f32; RECORD_FLOATS],
 }
 
 impl Record {
     pub fn empty() -> Record {
         Record {
-            head: [0; 8],
-            pair_numbers: [0.0; 240],
-            pair_bytes: [0; 120],
-            slots: [0; 40],
-            pt_out: [0; 40],
-            pt_dir: [0.0; 120],
-            idx: [0; 240],
-            inv: [0.0; 720],
-            num_nbrs: [0; 14],
-            imag_nbrs: [0; 560],
+            bytes: [0; RECORD_BYTES],
+            floats: [0.0; RECORD_FLOATS],
         }
     }
 }
 
-bind! {
-    fn new_into(positions: &[f32], lfe: &[usize], imaginary: &mut usize, r: &mut Record) -> u32 = rt_new;
-    fn outputs_into(r: &Record, count: &mut usize) -> u32 = rt_num_outputs;
-    pub fn gains(r: &Record, az: f32, el: f32, out: &mut [f32]) -> u32 = rt_gains;
-    /// A row for each direction, `width` places each; the record is taken in once.
-    pub fn gains_all(r: &Record, az: &[f32], el: &[f32], width: usize, out: &mut [f32]) -> u32 = rt_gains_all;
+/// `layout::new`: its number, and where it is 0 the imaginary count and the record.
+pub fn new(positions: &[f32], lfe: &[usize], imaginary: &mut usize, r: &mut Record) -> u32 {
+    unsafe {
+        panner_new(
+            positions.as_ptr(),
+            positions.len(),
+            lfe.as_ptr(),
+            lfe.len(),
+            imaginary,
+            r.bytes.as_mut_ptr(),
+            r.floats.as_mut_ptr(),
+        )
+    }
 }
 
-/// `layout::new`: its number, the imaginary count, and the record in r.
-pub fn new(positions: &[f32], lfe: &[usize], r: &mut Record) -> (u32, usize) {
-    let mut imaginary = 0;
-    let number = new_into(positions, lfe, &mut imaginary, r);
-    (number, imaginary)
+/// `panner::num_outputs`: its number, and where it is 0 the count.
+pub fn num_outputs(r: &Record, count: &mut usize) -> u32 {
+    unsafe { panner_num_outputs(r.bytes.as_ptr(), r.floats.as_ptr(), count) }
 }
 
-/// `panner::num_outputs`: its number and the count.
-pub fn num_outputs(r: &Record) -> (u32, usize) {
-    let mut count = 0;
-    let number = outputs_into(r, &mut count);
-    (number, count)
+pub fn gains(r: &Record, az: f32, el: f32, out: &mut [f32]) -> u32 {
+    let (bytes, floats, to) = (r.bytes.as_ptr(), r.floats.as_ptr(), out.as_mut_ptr());
+    unsafe { panner_gains(bytes, floats, az, el, to, out.len()) }
+}
+
+/// A row for each direction, `width` places each; the record is taken in once.
+pub fn gains_all(r: &Record, az: &[f32], el: &[f32], width: usize, out: &mut [f32]) -> u32 {
+    unsafe {
+        panner_gains_all(
+            r.bytes.as_ptr(),
+            r.floats.as_ptr(),
+            az.as_ptr(),
+            az.len(),
+            el.as_ptr(),
+            el.len(),
+            width,
+            out.as_mut_ptr(),
+            out.len(),
+        )
+    }
 }
 
 // ---- sessions
 
-/// A session as it crosses the boundary.
+/// A session as it crosses the boundary: its record's places, and its own behind them.
 #[derive(Clone)]
 pub struct Session {
-    pub record: Record,
-    pub sources: u8,
-    pub counts: [u8; 8],
-    pub standing: [f32; 256],
-    pub starts: [f32; 320],
+    pub bytes: [u8; SESSION_BYTES],
+    pub floats: [f32; SESSION_FLOATS],
 }
-
-/// A session that a call hands out whole.
-type Fresh = Session;
 
 impl Session {
     pub fn empty() -> Session {
         Session {
-            record: Record::empty(),
-            sources: 0,
-            counts: [0; 8],
-            standing: [0.0; 256],
-            starts: [0.0; 320],
+            bytes: [0; SESSION_BYTES],
+            floats: [0.0; SESSION_FLOATS],
         }
     }
 }
 
-bind! {
-    fn open_into(positions: &[f32], lfe: &[usize], sources: usize, imaginary: &mut usize, s: &mut Fresh) -> u32
-        = rt_open;
-    pub fn place(s: &mut Session, source: usize, az: f32, el: f32) -> u32 = rt_place;
-    pub fn take_back(s: &mut Session, source: usize) -> u32 = rt_take_back;
-    pub fn settle(s: &mut Session, source: usize) -> u32 = rt_settle;
-    pub fn render(s: &mut Session, block: usize, samples: &[f32], outputs: &mut [f32]) -> u32 = rt_render;
-    /// For each direction a `place` of it and a `take_back`, up to the first that is refused: its number, or 0.
-    pub fn place_take_back_all(s: &mut Session, source: usize, az: &[f32], el: &[f32]) -> u32
-        = rt_place_take_back_all;
+/// `session_open::open`: its number, and where it is 0 the imaginary count and the session.
+pub fn open(
+    positions: &[f32],
+    lfe: &[usize],
+    sources: usize,
+    imaginary: &mut usize,
+    s: &mut Session,
+) -> u32 {
+    unsafe {
+        panner_open(
+            positions.as_ptr(),
+            positions.len(),
+            lfe.as_ptr(),
+            lfe.len(),
+            sources,
+            imaginary,
+            s.bytes.as_mut_ptr(),
+            s.floats.as_mut_ptr(),
+        )
+    }
 }
 
-/// `session::open`: its number, the imaginary count, and the session in s.
-pub fn open(positions: &[f32], lfe: &[usize], sources: usize, s: &mut Session) -> (u32, usize) {
-    let mut imaginary = 0;
-    let number = open_into(positions, lfe, sources, &mut imaginary, s);
-    (number, imaginary)
+pub fn place(s: &mut Session, source: usize, az: f32, el: f32) -> u32 {
+    unsafe { panner_place(s.bytes.as_mut_ptr(), s.floats.as_mut_ptr(), source, az, el) }
+}
+
+pub fn take_back(s: &mut Session, source: usize) -> u32 {
+    unsafe { panner_take_back(s.bytes.as_mut_ptr(), s.floats.as_mut_ptr(), source) }
+}
+
+pub fn settle(s: &mut Session, source: usize) -> u32 {
+    unsafe { panner_settle(s.bytes.as_mut_ptr(), s.floats.as_mut_ptr(), source) }
+}
+
+pub fn render(s: &mut Session, block: usize, samples: &[f32], outputs: &mut [f32]) -> u32 {
+    unsafe {
+        panner_render(
+            s.bytes.as_mut_ptr(),
+            s.floats.as_mut_ptr(),
+            block,
+            samples.as_ptr(),
+            samples.len(),
+            outputs.as_mut_ptr(),
+            outputs.len(),
+        )
+    }
+}
+
+/// For each direction a `place` of it and a `take_back`, up to the first that is refused: its
+/// number, or 0.
+pub fn place_take_back_all(s: &mut Session, source: usize, az: &[f32], el: &[f32]) -> u32 {
+    unsafe {
+        panner_place_take_back_all(
+            s.bytes.as_mut_ptr(),
+            s.floats.as_mut_ptr(),
+            source,
+            az.as_ptr(),
+            az.len(),
+            el.as_ptr(),
+            el.len(),
+        )
+    }
 }

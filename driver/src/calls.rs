@@ -1,7 +1,7 @@
 //! Lists of calls on a session: ours, the oracle's as a record, and, of an opened session, its history.
 
 use driver::boundary::{self, Session};
-use driver::records::{session, session_arrays};
+use driver::records::{other_part, session, session_arrays, STARTS};
 use oracle::history::History;
 use oracle::layouts::MAX_SOURCES;
 use oracle::random::Random;
@@ -9,7 +9,7 @@ use oracle::random_layouts::draw;
 use oracle::session::{open, Call, Session as OracleSession, DEPTH, MAX_BLOCK};
 
 use crate::hex::{any, first_other, planted, samples, word, words};
-use crate::layouts::{by_hand, other_field};
+use crate::layouts::by_hand;
 use crate::tally::Tally;
 
 /// Where a list begins: the arguments of an accepted open, or none for a session made by hand.
@@ -154,32 +154,21 @@ fn shown(call: &Call) -> String {
 
 /// What differs in the session: a start gain that a render wrote may be any NaN, every other bit counts.
 fn other_session(ours: &Session, theirs: &OracleSession, rendered: bool) -> Option<String> {
-    let told = session_arrays(theirs);
-    if let Some(field) = other_field(&ours.record, &told.record) {
-        return Some(format!("another {field}"));
-    }
-    if (ours.sources, ours.counts) != (told.sources, told.counts) {
-        return Some("other sources or counts".to_string());
-    }
-    if let Some(place) = first_other(&ours.standing, &told.standing, 0) {
-        return Some(format!(
-            "standing place {place} is {}, expected {}",
-            word(ours.standing[place]),
-            word(told.standing[place])
-        ));
-    }
+    let mut told = session_arrays(theirs);
     for source in 0..MAX_SOURCES {
-        let row = source * 40..(source + 1) * 40;
+        let row = STARTS.start + source * 40..STARTS.start + (source + 1) * 40;
         let written = if rendered && source < theirs.sources {
             theirs.panner.num_outputs
         } else {
             0
         };
-        if let Some(place) = first_other(&ours.starts[row.clone()], &told.starts[row], written) {
+        if let Some(place) = first_other(&ours.floats[row.clone()], &told.floats[row.clone()], written) {
             return Some(format!("start gain {place} of source {source}"));
         }
+        told.floats[row.clone()].copy_from_slice(&ours.floats[row]);
     }
-    None
+    let part = other_part([&ours.bytes, &told.bytes], [&ours.floats, &told.floats])?;
+    Some(format!("another place among the {part}"))
 }
 
 /// The first call of a list after which something differs, and what.

@@ -43,9 +43,18 @@ pub fn same_bits(a: f32, b: f32) -> bool {
     a.to_bits() == b.to_bits()
 }
 
-/// Equal bits, or two NaNs: what both sides computed.
-pub fn same(a: f32, b: f32) -> bool {
-    same_bits(a, b) || (a.is_nan() && b.is_nan())
+/// A NaN that is quiet. Origin: IEEE 754-2019, 6.2.1.
+fn is_quiet(x: f32) -> bool {
+    x.is_nan() && x.to_bits() & 0x0040_0000 != 0
+}
+
+/// What both sides computed: equal bits, or two NaNs of which ours is quiet.
+pub fn same(ours: f32, theirs: f32) -> bool {
+    if theirs.is_nan() {
+        is_quiet(ours)
+    } else {
+        same_bits(ours, theirs)
+    }
 }
 
 /// The first place where two lists differ: computed before `n`, left alone from there on.

@@ -1,7 +1,7 @@
 //! Layouts of `new` and `open`, records made by hand, and the rows of both.
 
 use driver::boundary::{self, Record, Session};
-use driver::records::arrays;
+use driver::records::{arrays, other_part, session_arrays, HEAD, PAIR_BYTES};
 use oracle::layout_line::{Layout, Words};
 use oracle::layouts::{opened, triples};
 use oracle::made_records;
@@ -32,90 +32,69 @@ const PLAN: Plan = Plan {
 /// Every place of arrays that are about to be handed out, filled with something else.
 fn filled(r: &mut Random) -> Session {
     let mut s = Session::empty();
-    let byte = r.bits() as u8;
-    let place = planted(r, 1)[0];
-    for bytes in [
-        &mut s.record.head[..],
-        &mut s.record.pair_bytes,
-        &mut s.record.slots,
-        &mut s.record.pt_out,
-        &mut s.record.idx,
-        &mut s.record.num_nbrs,
-        &mut s.record.imag_nbrs,
-        &mut s.counts,
-    ] {
-        bytes.fill(byte);
-    }
-    for floats in [
-        &mut s.record.pair_numbers[..],
-        &mut s.record.pt_dir,
-        &mut s.record.inv,
-        &mut s.standing,
-        &mut s.starts,
-    ] {
-        floats.fill(place);
-    }
-    s.sources = byte;
+    s.bytes.fill(r.bits() as u8);
+    s.floats.fill(planted(r, 1)[0]);
     s
 }
 
-fn bits(l: &[f32]) -> Vec<u32> {
-    l.iter().map(|x| x.to_bits()).collect()
+/// The same of a record.
+fn filled_record(r: &mut Random) -> Record {
+    let mut to = Record::empty();
+    to.bytes.fill(r.bits() as u8);
+    to.floats.fill(planted(r, 1)[0]);
+    to
 }
 
-/// The field in which two records differ in a bit.
-pub fn other_field(a: &Record, b: &Record) -> Option<&'static str> {
-    let fields = [
-        ("head", a.head == b.head),
-        (
-            "pair_numbers",
-            bits(&a.pair_numbers) == bits(&b.pair_numbers),
-        ),
-        ("pair_bytes", a.pair_bytes == b.pair_bytes),
-        ("slots", a.slots == b.slots),
-        ("pt_out", a.pt_out == b.pt_out),
-        ("pt_dir", bits(&a.pt_dir) == bits(&b.pt_dir)),
-        ("idx", a.idx == b.idx),
-        ("inv", bits(&a.inv) == bits(&b.inv)),
-        ("num_nbrs", a.num_nbrs == b.num_nbrs),
-        ("imag_nbrs", a.imag_nbrs == b.imag_nbrs),
-    ];
-    fields.iter().find(|(_, good)| !good).map(|(name, _)| *name)
-}
+/// What the imaginary count holds before a call. Origin: above every count.
+const BEFORE: usize = 1_000;
 
-/// `new` and `open` on one layout: open's number, or what differs.
+/// `new` and `open` on one layout: open's number, or what differs. Beside a refusal every lent place keeps its bits.
 fn openings(r: &mut Random, layout: &Layout, sources: usize) -> Result<u32, String> {
     let (numbers, lfe) = (&layout.numbers[..], &layout.lfe[..]);
     let given = opened(numbers, lfe, 1);
-    let mut ours = filled(r).record;
-    let answer = boundary::new(numbers, lfe, &mut ours);
-    let expected = (u32::from(given.refusal), given.imaginary);
-    if answer != expected {
-        return Err(format!("new answers {answer:?}, expected {expected:?}"));
+    let before = filled_record(r);
+    let (mut ours, mut imaginary) = (before.clone(), BEFORE);
+    let number = boundary::new(numbers, lfe, &mut imaginary, &mut ours);
+    let accepted = given.refusal == 0;
+    let expected = (
+        u32::from(given.refusal),
+        if accepted { given.imaginary } else { BEFORE },
+    );
+    if (number, imaginary) != expected {
+        return Err(format!(
+            "new answers {number} and {imaginary}, expected {expected:?}"
+        ));
     }
-    if let Some(field) = other_field(&ours, &arrays(&given.panner)) {
-        return Err(format!("new: another {field}"));
+    let told = if accepted {
+        arrays(&given.panner)
+    } else {
+        before
+    };
+    if let Some(part) = other_part([&ours.bytes, &told.bytes], [&ours.floats, &told.floats]) {
+        return Err(format!("new: another place among the {part}"));
     }
     let given = opened(numbers, lfe, sources);
-    let mut ours = filled(r);
-    let answer = boundary::open(numbers, lfe, sources, &mut ours);
-    let expected = (u32::from(given.refusal), given.imaginary);
-    if answer != expected {
-        return Err(format!("open answers {answer:?}, expected {expected:?}"));
+    let before = filled(r);
+    let (mut ours, mut imaginary) = (before.clone(), BEFORE);
+    let number = boundary::open(numbers, lfe, sources, &mut imaginary, &mut ours);
+    let accepted = given.refusal == 0;
+    let expected = (
+        u32::from(given.refusal),
+        if accepted { given.imaginary } else { BEFORE },
+    );
+    if (number, imaginary) != expected {
+        return Err(format!(
+            "open answers {number} and {imaginary}, expected {expected:?}"
+        ));
     }
-    let held = if given.refusal == 0 { sources } else { 0 };
-    let fresh = OracleSession::fresh(given.panner, held);
-    if let Some(field) = other_field(&ours.record, &arrays(&fresh.panner)) {
-        return Err(format!("open: another {field}"));
-    }
-    let same = usize::from(ours.sources) == held
-        && ours.counts == fresh.counts
-        && bits(&ours.standing) == bits(&fresh.standing)
-        && bits(&ours.starts) == bits(&fresh.starts);
-    if same {
-        Ok(answer.0)
+    let told = if accepted {
+        session_arrays(&OracleSession::fresh(given.panner, sources))
     } else {
-        Err("open: another session".to_string())
+        before
+    };
+    match other_part([&ours.bytes, &told.bytes], [&ours.floats, &told.floats]) {
+        Some(part) => Err(format!("open: another place among the {part}")),
+        None => Ok(number),
     }
 }
 
@@ -209,16 +188,18 @@ pub fn by_hand(r: &mut Random) -> Panner {
 fn no_record(r: &mut Random, record: &Panner) -> Result<(), String> {
     let mut a = arrays(record);
     if r.below(2) == 0 {
-        a.head[1] = 4 + r.below(252) as u8;
+        a.bytes[HEAD][1] = 4 + r.below(252) as u8;
     } else {
-        a.pair_bytes[r.below(40) as usize * 3 + 2] = 2 + r.below(254) as u8;
+        a.bytes[PAIR_BYTES][r.below(40) as usize * 3 + 2] = 2 + r.below(254) as u8;
     }
     let before = planted(r, 9);
     let mut out = before.clone();
     let number = boundary::gains(&a, 0.5, 0.25, &mut out);
+    let mut count = BEFORE;
     let good = number == 11
         && first_other(&out, &before, 0).is_none()
-        && boundary::num_outputs(&a) == (11, 0);
+        && boundary::num_outputs(&a, &mut count) == 11
+        && count == BEFORE;
     if good {
         Ok(())
     } else {
@@ -352,13 +333,14 @@ fn rows(
     let expected = if panner.is_some() {
         (0, record.num_outputs)
     } else {
-        (11, 0)
+        (11, BEFORE)
     };
-    let count = boundary::num_outputs(&a);
-    tally.saw(count.0);
-    if count != expected {
+    let mut count = BEFORE;
+    let number = boundary::num_outputs(&a, &mut count);
+    tally.saw(number);
+    if (number, count) != expected {
         return Err(format!(
-            "num_outputs answers {count:?}, expected {expected:?}"
+            "num_outputs answers {number} and {count}, expected {expected:?}"
         ));
     }
     let asked = asked(r, record, numbers);

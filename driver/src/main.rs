@@ -4,7 +4,9 @@
 mod calls;
 mod hex;
 mod layouts;
+mod numbers;
 mod ramps;
+mod stack;
 mod tally;
 
 use std::time::{Duration, Instant, SystemTime, UNIX_EPOCH};
@@ -22,11 +24,16 @@ struct Kind {
 
 /// Origin of the counts: 100,000 layouts and records with some 100 rows each, and 10,000 lists of
 /// calls, where one open in thirty is refused and makes no list.
-const KINDS: [Kind; 4] = [
+const KINDS: [Kind; 5] = [
     Kind {
         name: "layouts and rows",
         case: layouts::case,
         scale: 100_000,
+    },
+    Kind {
+        name: "numbers",
+        case: numbers::case,
+        scale: 10_000,
     },
     Kind {
         name: "ramps",
@@ -133,6 +140,17 @@ fn main() {
         eprintln!("driver [--seed HEX] [--seconds S | --count N | --scale]");
         std::process::exit(2);
     };
+    let depths = stack::depths();
+    let told: Vec<String> = stack::CALLS
+        .iter()
+        .zip(depths)
+        .map(|(name, d)| format!("{name} {:.1}", d as f64 / 1024.0))
+        .collect();
+    println!("stack in KB: {}", told.join(", "));
+    if depths.iter().any(|d| *d > stack::BOUND) {
+        println!("a call touches more than {} KB", stack::BOUND / 1024);
+        std::process::exit(1);
+    }
     println!("seed {seed:x}");
     let tally = run(seed, limit);
     println!("{}", tally.details());

@@ -6,6 +6,7 @@ pub struct Tally {
     pub records: u64,
     pub malformed: u64,
     pub rows: u64,
+    pub numbers_worked: u64,
     pub ramps: u64,
     pub mixed: u64,
     pub lists: u64,
@@ -40,9 +41,10 @@ impl Tally {
 
     pub fn summary(&self) -> String {
         format!(
-            "rows {}, layouts {}, ramps {}, mixed gains {}, lists {} of {} calls: {} differences",
+            "rows {}, layouts {}, numbers {}, ramps {}, mixed gains {}, lists {} of {} calls: {} differences",
             self.rows,
             self.layouts + self.records,
+            self.numbers_worked,
             self.ramps,
             self.mixed,
             self.lists,

@@ -1,4 +1,5 @@
-// The mixed gain and the ramp.
+// The mixed gain and the ramp. A NaN among the gains and the ramped samples is computed: its sign and payload are the program's choice,
+// and each is a quiet NaN. Samples behind the shorter slice keep their bits.
 ghost use mathlib.Core.Path.{_≡_};
 ghost use Prim.Native.Nat.{min};
 ghost use lib.ListN.{length};
@@ -7,7 +8,7 @@ ghost use Rattle.ramp.specs.Ramp.{rampAddOf};
 ghost use Rattle.arrays.specs.Arrays.{at, Filled};
 
 #[no_mangle]
-pub extern "C" fn rt_normalized_lerp_gain(from: f32, to: f32, dot: f32, t: f32) -> f32
+pub extern "C" fn panner_normalized_lerp_gain(from: f32, to: f32, dot: f32, t: f32) -> f32
     ensures { λ r. ⌜ r ≡ normalizedLerpGainOf from to dot t ⌝ }
 {
     mixed_gain::normalized_lerp_gain(from, to, dot, t)
@@ -15,7 +16,7 @@ pub extern "C" fn rt_normalized_lerp_gain(from: f32, to: f32, dot: f32, t: f32) 
 
 // The gain of each four numbers.
 #[no_mangle]
-pub extern "C" fn rt_normalized_lerp_gain_all(
+pub extern "C" fn panner_normalized_lerp_gain_all(
     from: &[f32],
     to: &[f32],
     dot: &[f32],
@@ -28,7 +29,7 @@ pub extern "C" fn rt_normalized_lerp_gain_all(
 }
 
 #[no_mangle]
-pub extern "C" fn rt_ramp_add(dst: &mut [f32], src: &[f32], g0: f32, g1: f32)
+pub extern "C" fn panner_ramp_add(dst: &mut [f32], src: &[f32], g0: f32, g1: f32)
     ensures { λ _. ⌜ now (dst .exit) ≡ rampAddOf (now (dst .entry)) (now (src .entry)) g0 g1 ⌝ }
 {
     ramp::ramp_add(dst, src, g0, g1)

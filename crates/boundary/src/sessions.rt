@@ -1,297 +1,124 @@
-// A session in lent arrays: its record's, the count of sources, and three of its own. A refused call writes nothing.
+// A session in two lent arrays. A call takes it in, and where it is accepted hands its own part back; the record's places stay.
 ghost use mathlib.Core.Path.{_≡_};
 ghost use Rattle.history.specs.Calls.{place, takeBack, settle, render};
 ghost use Rattle.session.specs.Session.{renderedBuffer};
+ghost use Rattle.session.specs.Answers.{answerOf};
 ghost use Rattle.session_open.specs.Open.{openOf};
-ghost use Rattle.carried.specs.Records.{HandedOut, recordFrom};
-ghost use Rattle.carried.specs.Sessions.{sessionFrom, Left, placeTakeBack};
-use carried::record::bytes_of;
-use carried::record::head_of;
-use carried::record::numbers_of;
-use carried::sessions::leave_standing;
-use carried::sessions::leave_starts;
-use carried::sessions::session_from;
+ghost use Rattle.carried.specs.Sessions.{sessionBytes, sessionFloats, sessionFrom, written, bytesLeft, floatsLeft, placeTakeBack};
+use carried::sessions::hand_out;
+use carried::sessions::leave;
+use carried::sessions::taken_in;
 
-// `session_open::open`: its number, and the rest of its answer in the lent arrays.
+// `session_open::open`: its number, and where it is 0 the imaginary count and the session. No float of such a session is a NaN.
 #[no_mangle]
-pub extern "C" fn rt_open(
+pub extern "C" fn panner_open(
     positions: &[f32],
     lfe: &[usize],
     sources: usize,
     imaginary: &mut usize,
-    head: &mut [u8; 8],
-    pair_numbers: &mut [f32; 240],
-    pair_bytes: &mut [u8; 120],
-    slots: &mut [u8; 40],
-    pt_out: &mut [u8; 40],
-    pt_dir: &mut [f32; 120],
-    idx: &mut [u8; 240],
-    inv: &mut [f32; 720],
-    num_nbrs: &mut [u8; 14],
-    imag_nbrs: &mut [u8; 560],
-    held: &mut u8,
-    counts: &mut [u8; 8],
-    standing: &mut [f32; 256],
-    starts: &mut [f32; 320],
+    bytes: &mut [u8; 1031],
+    floats: &mut [f32; 1656],
 ) -> u32
     ensures number { λ r. ⌜ r ≡ openOf (now (positions .entry)) (now (lfe .entry)) sources .number ⌝ }
-    ensures imaginary { λ _. ⌜ now (imaginary .exit) ≡ openOf (now (positions .entry)) (now (lfe .entry)) sources .imaginary ⌝ }
-    ensures record { λ _. ⌜ HandedOut (openOf (now (positions .entry)) (now (lfe .entry)) sources .session .panner) (now (head .exit)) (now («pair_numbers» .exit)) (now («pair_bytes» .exit)) (now (slots .exit)) (now («pt_out» .exit)) (now («pt_dir» .exit)) (now (idx .exit)) (now (inv .exit)) (now («num_nbrs» .exit)) (now («imag_nbrs» .exit)) ⌝ }
-    ensures held { λ _. ⌜ now (held .exit) ≡ openOf (now (positions .entry)) (now (lfe .entry)) sources .session .sources ⌝ }
-    ensures counts { λ _. ⌜ now (counts .exit) ≡ openOf (now (positions .entry)) (now (lfe .entry)) sources .session .counts ⌝ }
-    ensures standing { λ _. ⌜ now (standing .exit) ≡ openOf (now (positions .entry)) (now (lfe .entry)) sources .session .standing ⌝ }
-    ensures starts { λ _. ⌜ now (starts .exit) ≡ openOf (now (positions .entry)) (now (lfe .entry)) sources .session .starts ⌝ }
+    ensures imaginary { λ r. ⌜ now (imaginary .exit) ≡ written r (openOf (now (positions .entry)) (now (lfe .entry)) sources .imaginary) (now (imaginary .entry)) ⌝ }
+    ensures bytes { λ r. ⌜ now (bytes .exit) ≡ written r (sessionBytes (openOf (now (positions .entry)) (now (lfe .entry)) sources .session)) (now (bytes .entry)) ⌝ }
+    ensures floats { λ r. ⌜ now (floats .exit) ≡ written r (sessionFloats (openOf (now (positions .entry)) (now (lfe .entry)) sources .session)) (now (floats .entry)) ⌝ }
 {
     let opened = session_open::open(positions, lfe, sources);
+    let why = opened.number;
+    if why != 0 {
+        return why;
+    }
     *imaginary = opened.imaginary;
-    let p = opened.session.panner;
-    let h = head_of(p);
-    *head = h;
-    let ps = p.pairs;
-    let n = p.num_pairs as usize;
-    let f = numbers_of(ps, n);
-    *pair_numbers = f;
-    let l = bytes_of(ps, n);
-    *pair_bytes = l;
-    let o = p.slots;
-    *slots = o;
-    let q = p.pt_out;
-    *pt_out = q;
-    let d = p.pt_dir;
-    *pt_dir = d;
-    let x = p.idx;
-    *idx = x;
-    let v = p.inv;
-    *inv = v;
-    let m = p.num_nbrs;
-    *num_nbrs = m;
-    let b = p.imag_nbrs;
-    *imag_nbrs = b;
-    *held = opened.session.sources;
-    let c = opened.session.counts;
-    *counts = c;
-    let t = opened.session.standing;
-    *standing = t;
-    let g = opened.session.starts;
-    *starts = g;
-    opened.number
+    let s = opened.session;
+    hand_out(s, bytes, floats);
+    0
 }
 
-// `session::place`.
+// `session::place`. Every float travels, and an angle that is not finite is written as +0.
 #[no_mangle]
-pub extern "C" fn rt_place(
-    head: &[u8; 8],
-    pair_numbers: &[f32; 240],
-    pair_bytes: &[u8; 120],
-    slots: &[u8; 40],
-    pt_out: &[u8; 40],
-    pt_dir: &[f32; 120],
-    idx: &[u8; 240],
-    inv: &[f32; 720],
-    num_nbrs: &[u8; 14],
-    imag_nbrs: &[u8; 560],
-    sources: u8,
-    counts: &mut [u8; 8],
-    standing: &mut [f32; 256],
-    starts: &mut [f32; 320],
+pub extern "C" fn panner_place(
+    bytes: &mut [u8; 1031],
+    floats: &mut [f32; 1656],
     source: usize,
     az: f32,
     el: f32,
 ) -> u32
-    ensures left { λ r. ⌜ Left (sessionFrom (recordFrom (now (head .entry)) (now («pair_numbers» .entry)) (now («pair_bytes» .entry)) (now (slots .entry)) (now («pt_out» .entry)) (now («pt_dir» .entry)) (now (idx .entry)) (now (inv .entry)) (now («num_nbrs» .entry)) (now («imag_nbrs» .entry))) sources (now (counts .entry)) (now (standing .entry)) (now (starts .entry))) (place source az el) r (now (counts .exit)) (now (standing .exit)) (now (starts .exit)) ⌝ }
+    ensures number { λ r. ⌜ r ≡ answerOf (sessionFrom (now (bytes .entry)) (now (floats .entry))) (place source az el) .number ⌝ }
+    ensures bytes { λ _. ⌜ now (bytes .exit) ≡ bytesLeft (now (bytes .entry)) (answerOf (sessionFrom (now (bytes .entry)) (now (floats .entry))) (place source az el)) ⌝ }
+    ensures floats { λ _. ⌜ now (floats .exit) ≡ floatsLeft (now (floats .entry)) (answerOf (sessionFrom (now (bytes .entry)) (now (floats .entry))) (place source az el)) ⌝ }
 {
-    let s = session_from(
-        head,
-        pair_numbers,
-        pair_bytes,
-        slots,
-        pt_out,
-        pt_dir,
-        idx,
-        inv,
-        num_nbrs,
-        imag_nbrs,
-        sources,
-        counts,
-        standing,
-        starts,
-    );
+    let s = taken_in(bytes, floats);
     let r = session::place(s, source, az, el);
-    leave_standing(r, counts, standing)
+    leave(r, bytes, floats)
 }
 
-// `session::take_back`.
+// `session::take_back`. Every float travels.
 #[no_mangle]
-pub extern "C" fn rt_take_back(
-    head: &[u8; 8],
-    pair_numbers: &[f32; 240],
-    pair_bytes: &[u8; 120],
-    slots: &[u8; 40],
-    pt_out: &[u8; 40],
-    pt_dir: &[f32; 120],
-    idx: &[u8; 240],
-    inv: &[f32; 720],
-    num_nbrs: &[u8; 14],
-    imag_nbrs: &[u8; 560],
-    sources: u8,
-    counts: &mut [u8; 8],
-    standing: &mut [f32; 256],
-    starts: &mut [f32; 320],
+pub extern "C" fn panner_take_back(
+    bytes: &mut [u8; 1031],
+    floats: &mut [f32; 1656],
     source: usize,
 ) -> u32
-    ensures left { λ r. ⌜ Left (sessionFrom (recordFrom (now (head .entry)) (now («pair_numbers» .entry)) (now («pair_bytes» .entry)) (now (slots .entry)) (now («pt_out» .entry)) (now («pt_dir» .entry)) (now (idx .entry)) (now (inv .entry)) (now («num_nbrs» .entry)) (now («imag_nbrs» .entry))) sources (now (counts .entry)) (now (standing .entry)) (now (starts .entry))) (takeBack source) r (now (counts .exit)) (now (standing .exit)) (now (starts .exit)) ⌝ }
+    ensures number { λ r. ⌜ r ≡ answerOf (sessionFrom (now (bytes .entry)) (now (floats .entry))) (takeBack source) .number ⌝ }
+    ensures bytes { λ _. ⌜ now (bytes .exit) ≡ bytesLeft (now (bytes .entry)) (answerOf (sessionFrom (now (bytes .entry)) (now (floats .entry))) (takeBack source)) ⌝ }
+    ensures floats { λ _. ⌜ now (floats .exit) ≡ floatsLeft (now (floats .entry)) (answerOf (sessionFrom (now (bytes .entry)) (now (floats .entry))) (takeBack source)) ⌝ }
 {
-    let s = session_from(
-        head,
-        pair_numbers,
-        pair_bytes,
-        slots,
-        pt_out,
-        pt_dir,
-        idx,
-        inv,
-        num_nbrs,
-        imag_nbrs,
-        sources,
-        counts,
-        standing,
-        starts,
-    );
+    let s = taken_in(bytes, floats);
     let r = session::take_back(s, source);
-    leave_standing(r, counts, standing)
+    leave(r, bytes, floats)
 }
 
-// `session::settle`.
+// `session::settle`. Every float travels, the moved direction of a session made by hand too: it keeps its bits.
 #[no_mangle]
-pub extern "C" fn rt_settle(
-    head: &[u8; 8],
-    pair_numbers: &[f32; 240],
-    pair_bytes: &[u8; 120],
-    slots: &[u8; 40],
-    pt_out: &[u8; 40],
-    pt_dir: &[f32; 120],
-    idx: &[u8; 240],
-    inv: &[f32; 720],
-    num_nbrs: &[u8; 14],
-    imag_nbrs: &[u8; 560],
-    sources: u8,
-    counts: &mut [u8; 8],
-    standing: &mut [f32; 256],
-    starts: &mut [f32; 320],
+pub extern "C" fn panner_settle(
+    bytes: &mut [u8; 1031],
+    floats: &mut [f32; 1656],
     source: usize,
 ) -> u32
-    ensures left { λ r. ⌜ Left (sessionFrom (recordFrom (now (head .entry)) (now («pair_numbers» .entry)) (now («pair_bytes» .entry)) (now (slots .entry)) (now («pt_out» .entry)) (now («pt_dir» .entry)) (now (idx .entry)) (now (inv .entry)) (now («num_nbrs» .entry)) (now («imag_nbrs» .entry))) sources (now (counts .entry)) (now (standing .entry)) (now (starts .entry))) (settle source) r (now (counts .exit)) (now (standing .exit)) (now (starts .exit)) ⌝ }
+    ensures number { λ r. ⌜ r ≡ answerOf (sessionFrom (now (bytes .entry)) (now (floats .entry))) (settle source) .number ⌝ }
+    ensures bytes { λ _. ⌜ now (bytes .exit) ≡ bytesLeft (now (bytes .entry)) (answerOf (sessionFrom (now (bytes .entry)) (now (floats .entry))) (settle source)) ⌝ }
+    ensures floats { λ _. ⌜ now (floats .exit) ≡ floatsLeft (now (floats .entry)) (answerOf (sessionFrom (now (bytes .entry)) (now (floats .entry))) (settle source)) ⌝ }
 {
-    let s = session_from(
-        head,
-        pair_numbers,
-        pair_bytes,
-        slots,
-        pt_out,
-        pt_dir,
-        idx,
-        inv,
-        num_nbrs,
-        imag_nbrs,
-        sources,
-        counts,
-        standing,
-        starts,
-    );
+    let s = taken_in(bytes, floats);
     let r = session::settle(s, source);
-    leave_standing(r, counts, standing)
+    leave(r, bytes, floats)
 }
 
-// `render::render`.
+// `render::render`. A NaN among the outputs, and in the start rows of a session whose layout was made by hand, is computed: its sign and
+// payload are the program's choice, and each is a quiet NaN. The other places of the session keep their bits, and all places beside a refusal.
 #[no_mangle]
-pub extern "C" fn rt_render(
-    head: &[u8; 8],
-    pair_numbers: &[f32; 240],
-    pair_bytes: &[u8; 120],
-    slots: &[u8; 40],
-    pt_out: &[u8; 40],
-    pt_dir: &[f32; 120],
-    idx: &[u8; 240],
-    inv: &[f32; 720],
-    num_nbrs: &[u8; 14],
-    imag_nbrs: &[u8; 560],
-    sources: u8,
-    counts: &mut [u8; 8],
-    standing: &mut [f32; 256],
-    starts: &mut [f32; 320],
+pub extern "C" fn panner_render(
+    bytes: &mut [u8; 1031],
+    floats: &mut [f32; 1656],
     block: usize,
     samples: &[f32],
     outputs: &mut [f32],
 ) -> u32
-    ensures left { λ r. ⌜ Left (sessionFrom (recordFrom (now (head .entry)) (now («pair_numbers» .entry)) (now («pair_bytes» .entry)) (now (slots .entry)) (now («pt_out» .entry)) (now («pt_dir» .entry)) (now (idx .entry)) (now (inv .entry)) (now («num_nbrs» .entry)) (now («imag_nbrs» .entry))) sources (now (counts .entry)) (now (standing .entry)) (now (starts .entry))) (render block (now (samples .entry)) (now (outputs .entry))) r (now (counts .exit)) (now (standing .exit)) (now (starts .exit)) ⌝ }
-    ensures buffer { λ _. ⌜ now (outputs .exit) ≡ renderedBuffer (sessionFrom (recordFrom (now (head .entry)) (now («pair_numbers» .entry)) (now («pair_bytes» .entry)) (now (slots .entry)) (now («pt_out» .entry)) (now («pt_dir» .entry)) (now (idx .entry)) (now (inv .entry)) (now («num_nbrs» .entry)) (now («imag_nbrs» .entry))) sources (now (counts .entry)) (now (standing .entry)) (now (starts .entry))) block (now (samples .entry)) (now (outputs .entry)) ⌝ }
+    ensures number { λ r. ⌜ r ≡ answerOf (sessionFrom (now (bytes .entry)) (now (floats .entry))) (render block (now (samples .entry)) (now (outputs .entry))) .number ⌝ }
+    ensures bytes { λ _. ⌜ now (bytes .exit) ≡ bytesLeft (now (bytes .entry)) (answerOf (sessionFrom (now (bytes .entry)) (now (floats .entry))) (render block (now (samples .entry)) (now (outputs .entry)))) ⌝ }
+    ensures floats { λ _. ⌜ now (floats .exit) ≡ floatsLeft (now (floats .entry)) (answerOf (sessionFrom (now (bytes .entry)) (now (floats .entry))) (render block (now (samples .entry)) (now (outputs .entry)))) ⌝ }
+    ensures buffer { λ _. ⌜ now (outputs .exit) ≡ renderedBuffer (sessionFrom (now (bytes .entry)) (now (floats .entry))) block (now (samples .entry)) (now (outputs .entry)) ⌝ }
 {
-    let s = session_from(
-        head,
-        pair_numbers,
-        pair_bytes,
-        slots,
-        pt_out,
-        pt_dir,
-        idx,
-        inv,
-        num_nbrs,
-        imag_nbrs,
-        sources,
-        counts,
-        standing,
-        starts,
-    );
+    let s = taken_in(bytes, floats);
     let r = render::render(s, block, samples, outputs);
-    leave_starts(r, starts)
+    leave(r, bytes, floats)
 }
 
-// The same, on a session that is taken in once and, refused or not, handed back.
+// For each direction a place and a take back, up to the first that is refused, on a session that is taken in once; nothing is written where one is.
 #[no_mangle]
-pub extern "C" fn rt_place_take_back_all(
-    head: &[u8; 8],
-    pair_numbers: &[f32; 240],
-    pair_bytes: &[u8; 120],
-    slots: &[u8; 40],
-    pt_out: &[u8; 40],
-    pt_dir: &[f32; 120],
-    idx: &[u8; 240],
-    inv: &[f32; 720],
-    num_nbrs: &[u8; 14],
-    imag_nbrs: &[u8; 560],
-    sources: u8,
-    counts: &mut [u8; 8],
-    standing: &mut [f32; 256],
-    starts: &mut [f32; 320],
+pub extern "C" fn panner_place_take_back_all(
+    bytes: &mut [u8; 1031],
+    floats: &mut [f32; 1656],
     source: usize,
     az: &[f32],
     el: &[f32],
 ) -> u32
-    ensures number { λ r. ⌜ r ≡ placeTakeBack (sessionFrom (recordFrom (now (head .entry)) (now («pair_numbers» .entry)) (now («pair_bytes» .entry)) (now (slots .entry)) (now («pt_out» .entry)) (now («pt_dir» .entry)) (now (idx .entry)) (now (inv .entry)) (now («num_nbrs» .entry)) (now («imag_nbrs» .entry))) sources (now (counts .entry)) (now (standing .entry)) (now (starts .entry))) source (now (az .entry)) (now (el .entry)) .number ⌝ }
-    ensures counts { λ _. ⌜ now (counts .exit) ≡ placeTakeBack (sessionFrom (recordFrom (now (head .entry)) (now («pair_numbers» .entry)) (now («pair_bytes» .entry)) (now (slots .entry)) (now («pt_out» .entry)) (now («pt_dir» .entry)) (now (idx .entry)) (now (inv .entry)) (now («num_nbrs» .entry)) (now («imag_nbrs» .entry))) sources (now (counts .entry)) (now (standing .entry)) (now (starts .entry))) source (now (az .entry)) (now (el .entry)) .session .counts ⌝ }
-    ensures standing { λ _. ⌜ now (standing .exit) ≡ placeTakeBack (sessionFrom (recordFrom (now (head .entry)) (now («pair_numbers» .entry)) (now («pair_bytes» .entry)) (now (slots .entry)) (now («pt_out» .entry)) (now («pt_dir» .entry)) (now (idx .entry)) (now (inv .entry)) (now («num_nbrs» .entry)) (now («imag_nbrs» .entry))) sources (now (counts .entry)) (now (standing .entry)) (now (starts .entry))) source (now (az .entry)) (now (el .entry)) .session .standing ⌝ }
-    ensures starts { λ _. ⌜ now (starts .exit) ≡ now (starts .entry) ⌝ }
+    ensures number { λ r. ⌜ r ≡ placeTakeBack (sessionFrom (now (bytes .entry)) (now (floats .entry))) source (now (az .entry)) (now (el .entry)) .number ⌝ }
+    ensures bytes { λ _. ⌜ now (bytes .exit) ≡ bytesLeft (now (bytes .entry)) (placeTakeBack (sessionFrom (now (bytes .entry)) (now (floats .entry))) source (now (az .entry)) (now (el .entry))) ⌝ }
+    ensures floats { λ _. ⌜ now (floats .exit) ≡ floatsLeft (now (floats .entry)) (placeTakeBack (sessionFrom (now (bytes .entry)) (now (floats .entry))) source (now (az .entry)) (now (el .entry))) ⌝ }
 {
-    let s = session_from(
-        head,
-        pair_numbers,
-        pair_bytes,
-        slots,
-        pt_out,
-        pt_dir,
-        idx,
-        inv,
-        num_nbrs,
-        imag_nbrs,
-        sources,
-        counts,
-        standing,
-        starts,
-    );
+    let s = taken_in(bytes, floats);
     let r = carried::directions::place_take_back(s, source, az, el);
-    let c = r.session.counts;
-    *counts = c;
-    let d = r.session.standing;
-    *standing = d;
-    r.number
+    leave(r, bytes, floats)
 }

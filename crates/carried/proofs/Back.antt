@@ -1,18 +1,21 @@
--- A record that was handed out is taken in as it was: its pairs one after another, and nothing behind their count. Assumes nothing.
+-- A record and a session that were handed out are taken in as they were. Assumes nothing.
 use Prim.Native.Nat.{ℕ, zero, suc, _+_, _-_, _*_, _≤_, _<_, min}
 use mathlib.Core.Path.{_≡_, refl, sym, ap, _∙_}
 use mathlib.Core.Bool.{Bool, true, false, cond}
-use mathlib.Core.List.{List, [], _∷_, _++_, map, flatMap}
+use mathlib.Core.List.{List, [], _∷_, _++_, append-assoc, map, flatMap}
 use native.Mathlib.Nat.{zero-mul, suc-mul, not-suc-le-zero}
 use native.Mathlib.Omega.{arith}
-use lib.Dec.{eqb}
+use borrow.Author.Tests.{eq-eqb, eqb-true, leb-true}
+use lib.Dec.{eqb, leb}
 use lib.Ieee.{Float, nan}
-use lib.ListN.{length, getD, take, replicate, length-append, length-take, replicate-append-replicate}
-use lib.Seq.{getD-append-add, ext-getD}
-use Rattle.lists.specs.Lists.{range, filled}
+use lib.ListN.{length, getD, take, drop, replicate, length-append, length-take, replicate-append-replicate, take-append-drop, List·getD-append, length-map}
+use lib.Seq.{length-take-le, getD-append-add, getD-at, append-snoc, ext-getD}
+use Rattle.lists.specs.Lists.{range, every, filled}
 use Rattle.lists.proofs.Collect.{flatMap-append}
+use Rattle.lists.proofs.Each.{each-all, each-every, each-imply, length-rows}
+use Rattle.neighbours.proofs.Laid.{rows-long}
 use Rattle.lists.proofs.Filled.{length-filled, take-filled}
-use Rattle.lists.proofs.Ranges.{length-map-range, getD-map-range}
+use Rattle.lists.proofs.Ranges.{length-range, length-map-range, getD-map-range}
 use Rattle.ieee.specs.Values.{+0}
 use Rattle.planar.specs.declared.Law.{Law}
 use Rattle.planar.specs.declared.Law.the-variants.{Inverse, Crossfade}
@@ -21,16 +24,22 @@ use Rattle.planar.specs.Planar.{noPair}
 use Rattle.panner.specs.declared.Kind.{Kind}
 use Rattle.panner.specs.declared.Kind.the-variants.{Silent, Mono, Planar, Hull}
 use Rattle.panner.specs.declared.VbapPanner.{VbapPanner}
-use Rattle.panner.specs.Shape.{Shape, silent, mono, planar, hull, Layout, imaginaryIn}
-use Rattle.panner.specs.Panner.{pairsIn, laid, noPanner}
-use Rattle.panner.specs.Meaning.{ShapeFits}
+use Rattle.hull.specs.Triplets.{Triplet}
+use Rattle.panner.specs.Shape.{HullShape, numbers, Shape, silent, mono, planar, hull, Layout, imaginaryIn}
+use Rattle.panner.specs.Panner.{pairsIn, slotsIn, hullIn, laid, noPanner}
+use Rattle.panner.specs.Meaning.{HullFits, ShapeFits}
 use Rattle.layout.specs.declared.NewPanner.{NewPanner}
 use Rattle.layout.specs.Layout.{layoutOf, newRefusal, pannerOf, newOf}
 use Rattle.layout.proofs.Answers.{accepted-fits}
-use Rattle.carried.specs.Records.{kindNumber, headOf, lawNumbers, lawNumber, numbersOf, bytesOf, pairNumbers, pairBytes, kindFrom, lawFrom, pairFrom, known}
-use Rattle.carried.specs.Meaning.{NoneBehind, HandedBack, NewNoneBehind}
+use Rattle.carried.specs.Records.{kindNumber, headOf, lawNumbers, lawNumber, numbersOf, bytesOf, pairNumbers, pairBytes, kindFrom, lawFrom, pairFrom, known, section, recordBytes, recordFloats, recordFrom}
+use Rattle.carried.specs.Sessions.{ownBytes, ownFloats, sessionBytes, sessionFloats, sessionFrom, bytesLeft, floatsLeft}
+use Rattle.session.specs.declared.Session.{Session}
+use Rattle.session.specs.declared.Answer.{Answer}
+use Rattle.carried.specs.Meaning.{Whole, WholeSession, HandedBack, SessionHandedBack, LeftTakenIn, NewWhole}
 use Rattle.carried.proofs.Known.{kind-known, laws-known}
-use Rattle.carried.proofs.Records.{record-made}
+use Rattle.carried.proofs.Laid.{length-bytes, length-floats}
+use Rattle.carried.proofs.Pasted.{length-two, section-front, section-last}
+use Rattle.carried.proofs.Records.{record-made, session-made}
 
 -- ---- parts of one length, one after another
 
@@ -139,7 +148,7 @@ all-known k l = kind-known (kindNumber k) (flatMap bytesOf l) (kind-small k) ∙
 
 -- ---- the record
 
-module _ (v : VbapPanner) (e : NoneBehind v) where
+module _ (v : VbapPanner) (w : Whole v) where
   used : List PlanarPair
   used = take (min (v .«num_pairs») 40) (v .pairs)
 
@@ -149,15 +158,15 @@ module _ (v : VbapPanner) (e : NoneBehind v) where
 
   forty : length (v .pairs) ≡ 40
   unfolding used
-  forty = ap length e ∙ length-filled 40 noPair used few
+  forty = ap length (w .pairs) ∙ length-filled 40 noPair used few
 
   all-numbers : pairNumbers (v .«num_pairs») (v .pairs) ≡ flatMap numbersOf (v .pairs)
   unfolding used pairNumbers numbersOf
-  all-numbers = flat-filled 6 numbersOf noPair +0 40 240 used six refl (omega (arith, few)) ∙ ap (flatMap numbersOf) (sym e)
+  all-numbers = flat-filled 6 numbersOf noPair +0 40 240 used six refl (omega (arith, few)) ∙ ap (flatMap numbersOf) (sym (w .pairs))
 
   all-bytes : pairBytes (v .«num_pairs») (v .pairs) ≡ flatMap bytesOf (v .pairs)
   unfolding used pairBytes bytesOf
-  all-bytes = flat-filled 3 bytesOf noPair 0 40 120 used three refl (omega (arith, few)) ∙ ap (flatMap bytesOf) (sym e)
+  all-bytes = flat-filled 3 bytesOf noPair 0 40 120 used three refl (omega (arith, few)) ∙ ap (flatMap bytesOf) (sym (w .pairs))
 
   pairs-back : v .pairs ≡ map (pairFrom (flatMap numbersOf (v .pairs)) (flatMap bytesOf (v .pairs))) (range 40)
   pairs-back =
@@ -165,26 +174,204 @@ module _ (v : VbapPanner) (e : NoneBehind v) where
       ext-getD noPair (v .pairs) (map f (range 40)) (forty ∙ sym (length-map-range f 40))
       (λ i h. sym (getD-map-range f 40 i noPair (omega (arith, forty)) ∙ pair-at (v .pairs) i noPair h))
 
+  long-numbers : length (pairNumbers (v .«num_pairs») (v .pairs)) ≡ 240
+  long-numbers = ap length all-numbers ∙ length-flat 6 numbersOf noPair +0 six (v .pairs) ∙ ap (λ (n : ℕ). n * 6) forty
+
+  long-bytes : length (pairBytes (v .«num_pairs») (v .pairs)) ≡ 120
+  long-bytes = ap length all-bytes ∙ length-flat 3 bytesOf noPair 0 three (v .pairs) ∙ ap (λ (n : ℕ). n * 3) forty
+
+  eight : length (headOf v) ≡ 8
+  unfolding headOf
+  eight = refl
+
+  pub bytes-long : length (recordBytes v) ≡ 1022
+  bytes-long = length-bytes v [] eight long-bytes (w .slots) (w .out) (w .idx) (w .counts) (w .nbrs)
+
+  pub floats-long : length (recordFloats v) ≡ 1080
+  floats-long = length-floats v [] long-numbers (w .dir) (w .inv)
+
+  abbrev f2 : List ℕ
+  f2 = headOf v ++ pairBytes (v .«num_pairs») (v .pairs)
+
+  abbrev f3 : List ℕ
+  f3 = f2 ++ v .slots
+
+  abbrev f4 : List ℕ
+  f4 = f3 ++ v .«pt_out»
+
+  abbrev f5 : List ℕ
+  f5 = f4 ++ v .idx
+
+  abbrev f6 : List ℕ
+  f6 = f5 ++ v .«num_nbrs»
+
+  l2 : length f2 ≡ 128
+  l2 = length-two (headOf v) (pairBytes (v .«num_pairs») (v .pairs)) 8 120 128 eight long-bytes refl
+
+  l3 : length f3 ≡ 168
+  l3 = length-two f2 (v .slots) 128 40 168 l2 (w .slots) refl
+
+  l4 : length f4 ≡ 208
+  l4 = length-two f3 (v .«pt_out») 168 40 208 l3 (w .out) refl
+
+  l5 : length f5 ≡ 448
+  l5 = length-two f4 (v .idx) 208 240 448 l4 (w .idx) refl
+
+  l6 : length f6 ≡ 462
+  l6 = length-two f5 (v .«num_nbrs») 448 14 462 l5 (w .counts) refl
+
+  second-part : section 8 120 (recordBytes v) ≡ pairBytes (v .«num_pairs») (v .pairs)
+  unfolding recordBytes
+  second-part =
+      section-front f6 (v .«imag_nbrs») 8 120 462 l6 (omega arith)
+      ∙ section-front f5 (v .«num_nbrs») 8 120 448 l5 (omega arith)
+      ∙ section-front f4 (v .idx) 8 120 208 l4 (omega arith)
+      ∙ section-front f3 (v .«pt_out») 8 120 168 l3 (omega arith)
+      ∙ section-front f2 (v .slots) 8 120 128 l2 (omega arith)
+      ∙ section-last (headOf v) (pairBytes (v .«num_pairs») (v .pairs)) 8 120 eight long-bytes
+
+  third-part : section 128 40 (recordBytes v) ≡ v .slots
+  unfolding recordBytes
+  third-part =
+      section-front f6 (v .«imag_nbrs») 128 40 462 l6 (omega arith)
+      ∙ section-front f5 (v .«num_nbrs») 128 40 448 l5 (omega arith)
+      ∙ section-front f4 (v .idx) 128 40 208 l4 (omega arith)
+      ∙ section-front f3 (v .«pt_out») 128 40 168 l3 (omega arith)
+      ∙ section-last f2 (v .slots) 128 40 l2 (w .slots)
+
+  fourth-part : section 168 40 (recordBytes v) ≡ v .«pt_out»
+  unfolding recordBytes
+  fourth-part =
+      section-front f6 (v .«imag_nbrs») 168 40 462 l6 (omega arith)
+      ∙ section-front f5 (v .«num_nbrs») 168 40 448 l5 (omega arith)
+      ∙ section-front f4 (v .idx) 168 40 208 l4 (omega arith)
+      ∙ section-last f3 (v .«pt_out») 168 40 l3 (w .out)
+
+  fifth-part : section 208 240 (recordBytes v) ≡ v .idx
+  unfolding recordBytes
+  fifth-part =
+      section-front f6 (v .«imag_nbrs») 208 240 462 l6 (omega arith)
+      ∙ section-front f5 (v .«num_nbrs») 208 240 448 l5 (omega arith)
+      ∙ section-last f4 (v .idx) 208 240 l4 (w .idx)
+
+  sixth-part : section 448 14 (recordBytes v) ≡ v .«num_nbrs»
+  unfolding recordBytes
+  sixth-part =
+      section-front f6 (v .«imag_nbrs») 448 14 462 l6 (omega arith)
+      ∙ section-last f5 (v .«num_nbrs») 448 14 l5 (w .counts)
+
+  last-part : section 462 560 (recordBytes v) ≡ v .«imag_nbrs»
+  unfolding recordBytes
+  last-part =
+      section-last f6 (v .«imag_nbrs») 462 560 l6 (w .nbrs)
+
+  long-two : length (pairNumbers (v .«num_pairs») (v .pairs) ++ v .«pt_dir») ≡ 360
+  long-two = length-two (pairNumbers (v .«num_pairs») (v .pairs)) _ 240 120 360 long-numbers (w .dir) refl
+
+  numbers-part : section 0 240 (recordFloats v) ≡ pairNumbers (v .«num_pairs») (v .pairs)
+  unfolding recordFloats
+  numbers-part =
+      section-front (pairNumbers (v .«num_pairs») (v .pairs) ++ v .«pt_dir») _ 0 240 360 long-two (omega arith)
+      ∙ section-front (pairNumbers (v .«num_pairs») (v .pairs)) _ 0 240 240 long-numbers (omega arith)
+      ∙ section-last [] (pairNumbers (v .«num_pairs») (v .pairs)) 0 240 refl long-numbers
+
+  dir-part : section 240 120 (recordFloats v) ≡ v .«pt_dir»
+  unfolding recordFloats
+  dir-part =
+      section-front (pairNumbers (v .«num_pairs») (v .pairs) ++ v .«pt_dir») _ 240 120 360 long-two (omega arith)
+      ∙ section-last (pairNumbers (v .«num_pairs») (v .pairs)) _ 240 120 long-numbers (w .dir)
+
+  inv-part : section 360 720 (recordFloats v) ≡ v .inv
+  unfolding recordFloats
+  inv-part = section-last (pairNumbers (v .«num_pairs») (v .pairs) ++ v .«pt_dir») _ 360 720 long-two (w .inv)
+
+  pub record-back : recordFrom (recordBytes v) (recordFloats v) ≡ v
+  unfolding recordBytes headOf
+  record-back =
+      sym
+      (record-made (recordBytes v) (recordFloats v)
+      (sym (second-part ∙ all-bytes))
+      (sym (numbers-part ∙ all-numbers))
+      (sym (all-known (v .kind) (v .pairs)))
+      refl
+      (sym (kind-back (v .kind)))
+      pairs-back
+      (sym third-part)
+      (sym fourth-part)
+      (sym dir-part)
+      (sym fifth-part)
+      (sym inv-part)
+      (sym sixth-part)
+      (sym last-part))
+
 pub handed-back : HandedBack
-unfolding headOf
-handed-back v head numbers bytes slots out dir idx inv counts nbrs h e =
-    let f = flatMap numbersOf (v .pairs) in
-    let b = flatMap bytesOf (v .pairs) in
+handed-back v w = record-back v w
+
+-- ---- the session
+
+-- what stands behind the record's places is not read
+record-front : (b x : List ℕ) (f y : List Float) → length b ≡ 1022 → length f ≡ 1080 → recordFrom (b ++ x) (f ++ y) ≡ recordFrom b f
+unfolding recordFrom
+record-front b x f y h k =
+    let at : (i : ℕ) → i < 8 → getD (b ++ x) i 0 ≡ getD b i 0 = λ i g. List·getD-append b x 0 i (omega (arith, g, h)) in
     rw (
-      h .head-of,
-      h .numbers-of ∙ all-numbers v e,
-      h .bytes-of ∙ all-bytes v e,
-      h .slots-of,
-      h .out-of,
-      h .dir-of,
-      h .idx-of,
-      h .inv-of,
-      h .counts-of,
-      h .nbrs-of,
+      at 0 (omega arith),
+      at 1 (omega arith),
+      at 2 (omega arith),
+      at 3 (omega arith),
+      at 4 (omega arith),
+      at 5 (omega arith),
+      at 6 (omega arith),
+      at 7 (omega arith),
+      section-front b x 8 120 1022 h (omega arith),
+      section-front b x 128 40 1022 h (omega arith),
+      section-front b x 168 40 1022 h (omega arith),
+      section-front b x 208 240 1022 h (omega arith),
+      section-front b x 448 14 1022 h (omega arith),
+      section-front b x 462 560 1022 h (omega arith),
+      section-front f y 0 240 1080 k (omega arith),
+      section-front f y 240 120 1080 k (omega arith),
+      section-front f y 360 720 1080 k (omega arith),
     )
-    (sym
-    (record-made (headOf v) f b (v .slots) (v .«pt_out») (v .«pt_dir») (v .idx) (v .inv) (v .«num_nbrs») (v .«imag_nbrs») (sym (all-known (v .kind) (v .pairs))) refl
-    (sym (kind-back (v .kind))) (pairs-back v e)))
+
+-- a session's own part behind the places of its record
+own-back : (b : List ℕ) (f : List Float) (s : Session) → length b ≡ 1022 → length f ≡ 1080 → length (s .counts) ≡ 8 → length (s .starts) ≡ 320 → length (s .standing) ≡ 256
+    → s .panner ≡ recordFrom b f → s ≡ sessionFrom (b ++ ownBytes s) (f ++ ownFloats s)
+unfolding ownBytes ownFloats
+own-back b f s lb lf lc ls lt e =
+    let one : length (b ++ s .sources ∷ []) ≡ 1023 = length-two b (s .sources ∷ []) 1022 1 1023 lb refl refl in
+    let two : length (f ++ s .starts) ≡ 1400 = length-two f (s .starts) 1080 320 1400 lf ls refl in
+    let counts : section 1023 8 (b ++ s .sources ∷ s .counts) ≡ s .counts =
+    ap (section 1023 8) (sym (append-snoc b (s .sources) (s .counts))) ∙ section-last (b ++ s .sources ∷ []) (s .counts) 1023 8 one lc in
+    let starts : section 1080 320 (f ++ (s .starts ++ s .standing)) ≡ s .starts =
+    ap (section 1080 320) (sym (append-assoc f (s .starts) (s .standing)))
+    ∙ section-front (f ++ s .starts) (s .standing) 1080 320 1400 two (omega arith)
+    ∙ section-last f (s .starts) 1080 320 lf ls in
+    let standing : section 1400 256 (f ++ (s .starts ++ s .standing)) ≡ s .standing =
+    ap (section 1400 256) (sym (append-assoc f (s .starts) (s .standing))) ∙ section-last (f ++ s .starts) (s .standing) 1400 256 two lt in
+    let sources : getD (b ++ s .sources ∷ s .counts) 1022 0 ≡ s .sources = getD-at b (s .sources) (s .counts) 0 1022 lb in
+    ap (λ (n : ℕ). record { panner = s .panner; sources = n; counts = s .counts; standing = s .standing; starts = s .starts }) (sym sources)
+    ∙ session-made (b ++ s .sources ∷ s .counts) (f ++ (s .starts ++ s .standing))
+    (e ∙ sym (record-front b (s .sources ∷ s .counts) f (s .starts ++ s .standing) lb lf)) (sym counts) (sym starts) (sym standing)
+
+pub session-handed-back : SessionHandedBack
+unfolding sessionBytes sessionFloats
+session-handed-back s w =
+    let p = s .panner in
+    sym
+    (own-back (recordBytes p) (recordFloats p) s (bytes-long p (w .panner)) (floats-long p (w .panner)) (w .counts) (w .starts) (w .standing)
+    (sym (record-back p (w .panner))))
+
+pub left-taken-in : LeftTakenIn
+unfolding bytesLeft floatsLeft
+left-taken-in b f a hb hf z e lc ls lt =
+    let lb : length (take 1022 b) ≡ 1022 = length-take-le 1022 b (omega arith) in
+    let lf : length (take 1080 f) ≡ 1080 = length-take-le 1080 f (omega arith) in
+    let same : recordFrom b f ≡ recordFrom (take 1022 b) (take 1080 f) =
+    ap (λ (x : List ℕ). recordFrom x f) (sym (take-append-drop 1022 b))
+    ∙ ap (recordFrom (take 1022 b ++ drop 1022 b)) (sym (take-append-drop 1080 f))
+    ∙ record-front (take 1022 b) (drop 1022 b) (take 1080 f) (drop 1080 f) lb lf in
+    rw (eq-eqb (a .number) 0 z) (sym (own-back (take 1022 b) (take 1080 f) (a .session) lb lf lc ls lt (e ∙ same)))
 
 -- ---- every record of `new`
 
@@ -195,23 +382,60 @@ few-pairs (mono i) f = omega arith
 few-pairs (planar ps ss) f = f .0
 few-pairs (hull h) f = omega arith
 
-laid-none-behind : (l : Layout) → ShapeFits (l .shape) → NoneBehind (laid l)
-unfolding laid
-laid-none-behind l f =
-    let ps = pairsIn (l .shape) in
-    let e : min (length ps) 40 ≡ length ps = omega (arith, few-pairs (l .shape) f) in
-    sym (ap (λ (k : ℕ). filled 40 noPair (take k (filled 40 noPair ps))) e ∙ ap (filled 40 noPair) (take-filled 40 noPair ps))
+few-slots : (s : Shape) → ShapeFits s → length (slotsIn s) ≤ 40
+unfolding slotsIn
+few-slots silent f = omega arith
+few-slots (mono i) f = omega arith
+few-slots (planar ps ss) f = f .1
+few-slots (hull h) f = omega arith
 
-pub new-none-behind : NewNoneBehind
+no-hull-fits : HullFits (record { out = []; dirs = []; tris = []; imag = [] })
+unfolding every
+no-hull-fits = record { out = omega arith; dirs = refl; three = refl; tris = omega arith; nine = refl; imag = omega arith; nbrs = refl }
+
+hull-fits : (s : Shape) → ShapeFits s → HullFits (hullIn s)
+unfolding hullIn
+hull-fits silent f = no-hull-fits
+hull-fits (mono i) f = no-hull-fits
+hull-fits (planar ps ss) f = no-hull-fits
+hull-fits (hull h) f = f
+
+laid-whole : (l : Layout) → ShapeFits (l .shape) → Whole (laid l)
+unfolding laid
+laid-whole l f =
+    let ps = pairsIn (l .shape) in
+    let h = hullIn (l .shape) in
+    let g = hull-fits (l .shape) f in
+    let e : min (length ps) 40 ≡ length ps = omega (arith, few-pairs (l .shape) f) in
+    let three : length (flatMap (λ d. d) (h .dirs)) ≡ length (h .dirs) * 3 =
+    length-rows 3 (λ d. d) (h .dirs) (each-imply (λ d. eqb (length d) 3 ≡ true) (λ d. length d ≡ 3) (λ d k. eqb-true (length d) 3 k) (h .dirs) (each-every (λ d. eqb (length d) 3) (h .dirs) (g .three))) in
+    let numbers-long : length (flatMap numbers (h .tris)) ≡ length (h .tris) * 3 = length-rows 3 numbers (h .tris) (each-all (λ t. length (numbers t) ≡ 3) (λ t. refl) (h .tris)) in
+    let inverse : ℕ → List Float = λ e. filled 80 +0 (map (λ (t : Triplet). getD (t .inv) e nan) (h .tris)) in
+    let row : (e : ℕ) → length (inverse e) ≡ 80 = λ e. length-filled 80 +0 (map (λ (t : Triplet). getD (t .inv) e nan) (h .tris)) (omega (arith, g .tris, length-map (h .tris) (λ (t : Triplet). getD (t .inv) e nan))) in
+    record {
+      pairs = sym (ap (λ (k : ℕ). filled 40 noPair (take k (filled 40 noPair ps))) e ∙ ap (filled 40 noPair) (take-filled 40 noPair ps));
+      slots = length-filled 40 0 (slotsIn (l .shape)) (few-slots (l .shape) f);
+      out = length-filled 40 0 (h .out) (g .out);
+      dir = length-filled 120 +0 (flatMap (λ d. d) (h .dirs)) (omega (arith, three, g .dirs, g .out));
+      idx = length-filled 240 0 (flatMap numbers (h .tris)) (omega (arith, numbers-long, g .tris));
+      inv = length-rows 80 inverse (range 9) (each-all (λ e. length (inverse e) ≡ 80) row (range 9)) ∙ ap (λ (n : ℕ). n * 80) (length-range 9);
+      counts = length-filled 14 0 (map length (h .imag)) (omega (arith, g .imag, length-map (h .imag) length));
+      nbrs =
+          rows-long 40 0 14 (h .imag)
+          (each-imply (λ ns. leb (length ns) 40 ≡ true) (λ ns. length ns ≤ 40) (λ ns k. leb-true (length ns) 40 k) (h .imag) (each-every (λ ns. leb (length ns) 40) (h .imag) (g .nbrs)))
+          (g .imag);
+    }
+
+pub new-whole : NewWhole
 unfolding newOf pannerOf noPanner
-new-none-behind positions lfe = by (eqb (newRefusal positions lfe) 0) refl
+new-whole positions lfe = by (eqb (newRefusal positions lfe) 0) refl
   where
     by : (b : Bool) → eqb (newRefusal positions lfe) 0 ≡ b
-        → NoneBehind
+        → Whole
         (cond {A = NewPanner} b (record { number = 0; panner = pannerOf positions lfe; imaginary = imaginaryIn (layoutOf positions lfe .shape) })
         (record { number = newRefusal positions lfe; panner = noPanner; imaginary = 0 })
         .panner)
     by true e =
         let z : newOf positions lfe .number ≡ 0 = rw e in
-        laid-none-behind (layoutOf positions lfe) (accepted-fits positions lfe z .shape)
-    by false e = laid-none-behind (record { outputs = 0; shape = silent }) tt
+        laid-whole (layoutOf positions lfe) (accepted-fits positions lfe z .shape)
+    by false e = laid-whole (record { outputs = 0; shape = silent }) tt

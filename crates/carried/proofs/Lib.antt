@@ -1,3 +1,5 @@
+pub mod Pasted
+pub mod Laid
 pub mod Known
 pub mod Pairs
 pub mod Rows

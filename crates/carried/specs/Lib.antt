@@ -1,3 +1,4 @@
+pub mod Pasted
 pub mod Records
 pub mod Rows
 pub mod Sessions

@@ -1,11 +1,10 @@
--- A record in lent arrays: driver/README.md. The kind and the law are numbers there. Assumes nothing.
+-- A record in two lent arrays, one of bytes and one of floats: docs/EMBEDDING.md. The kind and the law are numbers there. Assumes nothing.
 use Prim.Native.Nat.{ℕ, _+_, _*_, min}
-use mathlib.Core.Path.{_≡_}
 use mathlib.Core.Bool.{Bool, _&&_, cond}
-use mathlib.Core.List.{List, [], _∷_, map, flatMap}
+use mathlib.Core.List.{List, [], _∷_, _++_, map, flatMap}
 use lib.Dec.{eqb, ltb}
 use lib.Ieee.{Float, nan}
-use lib.ListN.{getD, take}
+use lib.ListN.{getD, take, drop}
 use Rattle.lists.specs.Lists.{range, every, filled}
 use Rattle.ieee.specs.Values.{+0}
 use Rattle.planar.specs.declared.Law.{Law}
@@ -51,18 +50,19 @@ pairNumbers n ps = filled 240 +0 (flatMap numbersOf (take (min n 40) ps))
 unfoldable pub pairBytes : ℕ → List PlanarPair → List ℕ
 pairBytes n ps = filled 120 0 (flatMap bytesOf (take (min n 40) ps))
 
--- the ten arrays of a record
-pub record HandedOut (p : VbapPanner) (head : List ℕ) (numbers : List Float) (bytes slots out : List ℕ) (dir : List Float) (idx : List ℕ) (inv : List Float) (counts nbrs : List ℕ) : Type 0 where
-  pub head-of : head ≡ headOf p
-  pub numbers-of : numbers ≡ pairNumbers (p .«num_pairs») (p .pairs)
-  pub bytes-of : bytes ≡ pairBytes (p .«num_pairs») (p .pairs)
-  pub slots-of : slots ≡ p .slots
-  pub out-of : out ≡ p .«pt_out»
-  pub dir-of : dir ≡ p .«pt_dir»
-  pub idx-of : idx ≡ p .idx
-  pub inv-of : inv ≡ p .inv
-  pub counts-of : counts ≡ p .«num_nbrs»
-  pub nbrs-of : nbrs ≡ p .«imag_nbrs»
+-- a record's 1,022 bytes and 1,080 floats, one part after another
+unfoldable pub recordBytes : VbapPanner → List ℕ
+recordBytes p =
+    headOf p
+    ++ pairBytes (p .«num_pairs») (p .pairs)
+    ++ p .slots
+    ++ p .«pt_out»
+    ++ p .idx
+    ++ p .«num_nbrs»
+    ++ p .«imag_nbrs»
+
+unfoldable pub recordFloats : VbapPanner → List Float
+recordFloats p = pairNumbers (p .«num_pairs») (p .pairs) ++ p .«pt_dir» ++ p .inv
 
 -- ---- taken in
 
@@ -93,24 +93,28 @@ known kind bytes = ltb kind 4 && every (λ i. ltb (getD bytes (i * 3 + 2) 0) 2) 
 abbrev pub noRecord : ℕ
 noRecord = 255
 
--- the record that the arrays stand for. Where a kind or a law is none its outputs are over 40, so that every call refuses it with 11 (unknown-malformed)
-unfoldable pub recordFrom : List ℕ → List Float → List ℕ → List ℕ → List ℕ → List Float → List ℕ → List Float → List ℕ → List ℕ → VbapPanner
-recordFrom head numbers bytes slots out dir idx inv counts nbrs =
+-- the n places from place i on
+abbrev pub section : {A : Type 0} → ℕ → ℕ → List A → List A
+section i n l = take n (drop i l)
+
+-- the record in the first places of the arrays. Where a kind or a law is none its outputs are over 40, so that every call refuses it with 11 (unknown-malformed)
+unfoldable pub recordFrom : List ℕ → List Float → VbapPanner
+recordFrom bytes floats =
     record {
-      «num_outputs» = cond (known (getD head 1 0) bytes) (getD head 0 0) noRecord;
-      kind = kindFrom (getD head 1 0);
-      mono = getD head 2 0;
-      «num_pairs» = getD head 3 0;
-      pairs = map (pairFrom numbers bytes) (range 40);
-      «num_slots» = getD head 4 0;
-      slots = slots;
-      «num_real» = getD head 5 0;
-      «pt_out» = out;
-      «pt_dir» = dir;
-      «num_tris» = getD head 6 0;
-      idx = idx;
-      inv = inv;
-      «num_imag» = getD head 7 0;
-      «num_nbrs» = counts;
-      «imag_nbrs» = nbrs;
+      «num_outputs» = cond (known (getD bytes 1 0) (section 8 120 bytes)) (getD bytes 0 0) noRecord;
+      kind = kindFrom (getD bytes 1 0);
+      mono = getD bytes 2 0;
+      «num_pairs» = getD bytes 3 0;
+      pairs = map (pairFrom (section 0 240 floats) (section 8 120 bytes)) (range 40);
+      «num_slots» = getD bytes 4 0;
+      slots = section 128 40 bytes;
+      «num_real» = getD bytes 5 0;
+      «pt_out» = section 168 40 bytes;
+      «pt_dir» = section 240 120 floats;
+      «num_tris» = getD bytes 6 0;
+      idx = section 208 240 bytes;
+      inv = section 360 720 floats;
+      «num_imag» = getD bytes 7 0;
+      «num_nbrs» = section 448 14 bytes;
+      «imag_nbrs» = section 462 560 bytes;
     }

@@ -1,26 +1,56 @@
--- A session in lent arrays: driver/README.md. Assumes nothing.
+-- A session in two lent arrays, one of bytes and one of floats: docs/EMBEDDING.md. Assumes nothing.
 use Prim.Native.Nat.{ℕ}
-use mathlib.Core.Path.{_≡_}
 use mathlib.Core.Bool.{cond}
-use mathlib.Core.List.{List, [], _∷_}
+use mathlib.Core.List.{List, [], _∷_, _++_}
 use lib.Dec.{eqb}
+use lib.ListN.{getD, take}
 use lib.Ieee.{Float}
-use Rattle.panner.specs.declared.VbapPanner.{VbapPanner}
-use Rattle.history.specs.Calls.{Call, place, takeBack}
+use Rattle.history.specs.Calls.{place, takeBack}
 use Rattle.session.specs.declared.Session.{Session}
 use Rattle.session.specs.declared.Answer.{Answer}
-use Rattle.session.specs.Session.{numberOf, after}
 use Rattle.session.specs.Answers.{answerOf}
+use Rattle.carried.specs.Records.{recordBytes, recordFloats, section, recordFrom}
 
-unfoldable pub sessionFrom : VbapPanner → ℕ → List ℕ → List Float → List Float → Session
-sessionFrom p sources counts standing starts = record { panner = p; sources = sources; counts = counts; standing = standing; starts = starts }
+-- ---- handed out: the record's places, and behind them the session's own
 
--- what a call answers, and what it leaves in the lent arrays
-pub record Left (s : Session) (c : Call) (r : ℕ) (ns : List ℕ) (ds gs : List Float) : Type 0 where
-  pub number : r ≡ numberOf s c
-  pub counts : ns ≡ after s c .counts
-  pub standing : ds ≡ after s c .standing
-  pub starts : gs ≡ after s c .starts
+unfoldable pub ownBytes : Session → List ℕ
+ownBytes s = s .sources ∷ s .counts
+
+unfoldable pub ownFloats : Session → List Float
+ownFloats s = s .starts ++ s .standing
+
+unfoldable pub sessionBytes : Session → List ℕ
+sessionBytes s = recordBytes (s .panner) ++ ownBytes s
+
+unfoldable pub sessionFloats : Session → List Float
+sessionFloats s = recordFloats (s .panner) ++ ownFloats s
+
+-- ---- taken in
+
+unfoldable pub sessionFrom : List ℕ → List Float → Session
+sessionFrom bytes floats =
+    record {
+      panner = recordFrom bytes floats;
+      sources = getD bytes 1022 0;
+      counts = section 1023 8 bytes;
+      starts = section 1080 320 floats;
+      standing = section 1400 256 floats;
+    }
+
+-- ---- what a call leaves in a lent place
+
+-- what was made where the number is 0, and what stood there beside a refusal
+abbrev pub written : {A : Type 0} → ℕ → A → A → A
+written number made before = cond (eqb number 0) made before
+
+-- the arrays of a session after a call on it that answers a: the layout's places as they were, and behind them the session's own
+unfoldable pub bytesLeft : List ℕ → Answer → List ℕ
+bytesLeft bytes a = written (a .number) (take 1022 bytes ++ ownBytes (a .session)) bytes
+
+unfoldable pub floatsLeft : List Float → Answer → List Float
+floatsLeft floats a = written (a .number) (take 1080 floats ++ ownFloats (a .session)) floats
+
+-- ---- several directions
 
 -- for each direction a place and a take back, up to the first that is refused: its answer
 unfoldable pub placeTakeBack : Session → ℕ → List Float → List Float → Answer

@@ -1,4 +1,5 @@
-// A record and a session as arrays of numbers, handed out and taken in; and the calls on them for several directions.
+// A record and a session as two arrays each, one of bytes and one of floats: handed out and taken in; and the calls on them for several directions.
+pub mod copies;
 pub mod directions;
 pub mod record;
 pub mod sessions;

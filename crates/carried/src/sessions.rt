@@ -1,78 +1,96 @@
-// A session in lent arrays: its record's, the count of sources, and three of its own.
+// A session in two lent arrays: its record's places, and behind them its own.
+//
+// Its bytes: 1,022 of the record, the count of sources, and a standing count for each of 8 sources.
+// Its floats: 1,080 of the record, a start row of 40 for each of 8 sources, and the standing directions as crate standing has them.
+// Origin of the counts: document 01, "Session"; each part begins where the one before ends.
 ghost use mathlib.Core.Path.{_≡_};
-ghost use mathlib.Core.Bool.{cond};
-ghost use lib.Dec.{eqb};
-ghost use Rattle.carried.specs.Records.{recordFrom};
-ghost use Rattle.carried.specs.Sessions.{sessionFrom};
-use crate::record::record_from;
+ghost use mathlib.Core.List.{[], _∷_, _++_};
+ghost use lib.ListN.{length, take};
+ghost use Rattle.carried.specs.Pasted.{pasted};
+ghost use Rattle.carried.specs.Sessions.{sessionBytes, sessionFloats, ownBytes, ownFloats, sessionFrom, bytesLeft, floatsLeft};
+use crate::copies::copy_bytes;
+use crate::copies::copy_floats;
+use crate::record;
 use session::Answer;
 use session::Session;
 
 // The session that the arrays stand for.
-pub fn session_from(
-    head: &[u8; 8],
-    pair_numbers: &[f32; 240],
-    pair_bytes: &[u8; 120],
-    slots: &[u8; 40],
-    pt_out: &[u8; 40],
-    pt_dir: &[f32; 120],
-    idx: &[u8; 240],
-    inv: &[f32; 720],
-    num_nbrs: &[u8; 14],
-    imag_nbrs: &[u8; 560],
-    sources: u8,
-    counts: &[u8; 8],
-    standing: &[f32; 256],
-    starts: &[f32; 320],
-) -> Session
-    ensures { λ r. ⌜ r ≡ sessionFrom (recordFrom (now (head .entry)) (now («pair_numbers» .entry)) (now («pair_bytes» .entry)) (now (slots .entry)) (now («pt_out» .entry)) (now («pt_dir» .entry)) (now (idx .entry)) (now (inv .entry)) (now («num_nbrs» .entry)) (now («imag_nbrs» .entry))) sources (now (counts .entry)) (now (standing .entry)) (now (starts .entry)) ⌝ }
+pub fn taken_in(bytes: &[u8], floats: &[f32]) -> Session
+    requires { ⌜ (length (now bytes) ≡ 1031) × (length (now floats) ≡ 1656) ⌝ }
+    ensures { λ r. ⌜ r ≡ sessionFrom (now (bytes .entry)) (now (floats .entry)) ⌝ }
 {
-    let panner = record_from(
-        head,
-        pair_numbers,
-        pair_bytes,
-        slots,
-        pt_out,
-        pt_dir,
-        idx,
-        inv,
-        num_nbrs,
-        imag_nbrs,
-    );
+    let panner = record::taken_in(bytes, floats);
+    let mut counts = [0u8; 8];
+    copy_bytes(bytes, 1023, &mut counts, 0, 8);
+    let mut starts = [0.0f32; 320];
+    copy_floats(floats, 1080, &mut starts, 0, 320);
+    let mut standing = [0.0f32; 256];
+    copy_floats(floats, 1400, &mut standing, 0, 256);
     Session {
         panner,
-        sources,
-        counts: *counts,
-        standing: *standing,
-        starts: *starts,
+        sources: bytes[1022],
+        counts,
+        standing,
+        starts,
     }
 }
 
-// What an accepted place, take back or settle made; a refused one writes nothing.
-pub fn leave_standing(a: Answer, counts: &mut [u8; 8], standing: &mut [f32; 256]) -> u32
+// The session's own bytes: the count of sources and the standing counts.
+fn put_counts(sources: u8, counts: [u8; 8], to: &mut [u8])
+    requires { ⌜ length (now to) ≡ 1031 ⌝ }
+    ensures { λ _. ⌜ now (to .exit) ≡ pasted (pasted (now (to .entry)) 1022 (sources ∷ []) 1) 1023 counts 8 ⌝ }
+    ensures long { λ _. ⌜ length counts ≡ 8 ⌝ }
+{
+    let first = [sources];
+    copy_bytes(&first, 0, to, 1022, 1);
+    copy_bytes(&counts, 0, to, 1023, 8);
+}
+
+// And its own floats: the start rows and the standing directions.
+fn put_rows(starts: [f32; 320], standing: [f32; 256], to: &mut [f32])
+    requires { ⌜ length (now to) ≡ 1656 ⌝ }
+    ensures { λ _. ⌜ now (to .exit) ≡ pasted (pasted (now (to .entry)) 1080 starts 320) 1400 standing 256 ⌝ }
+    ensures long { λ _. ⌜ (length starts ≡ 320) × (length standing ≡ 256) ⌝ }
+{
+    copy_floats(&starts, 0, to, 1080, 320);
+    copy_floats(&standing, 0, to, 1400, 256);
+}
+
+// Both into their places; those of the record stay.
+fn hand_out_own(s: Session, bytes: &mut [u8], floats: &mut [f32])
+    requires { ⌜ (length (now bytes) ≡ 1031) × (length (now floats) ≡ 1656) ⌝ }
+    ensures bytes { λ _. ⌜ now (bytes .exit) ≡ take 1022 (now (bytes .entry)) ++ ownBytes s ⌝ }
+    ensures floats { λ _. ⌜ now (floats .exit) ≡ take 1080 (now (floats .entry)) ++ ownFloats s ⌝ }
+{
+    let counts = s.counts;
+    put_counts(s.sources, counts, bytes);
+    let starts = s.starts;
+    let standing = s.standing;
+    put_rows(starts, standing, floats);
+}
+
+// The whole session into the arrays.
+pub fn hand_out(s: Session, bytes: &mut [u8], floats: &mut [f32])
+    requires { ⌜ (length (now bytes) ≡ 1031) × (length (now floats) ≡ 1656) ⌝ }
+    ensures bytes { λ _. ⌜ now (bytes .exit) ≡ sessionBytes s ⌝ }
+    ensures floats { λ _. ⌜ now (floats .exit) ≡ sessionFloats s ⌝ }
+{
+    let panner = s.panner;
+    record::hand_out(panner, bytes, floats);
+    hand_out_own(s, bytes, floats);
+}
+
+// The answer of a call on a session that was taken in: its number, and what it made where it is accepted. A call leaves the layout as it is.
+pub fn leave(a: Answer, bytes: &mut [u8], floats: &mut [f32]) -> u32
+    requires { ⌜ (length (now bytes) ≡ 1031) × (length (now floats) ≡ 1656) ⌝ }
     ensures number { λ r. ⌜ r ≡ a .number ⌝ }
-    ensures counts { λ _. ⌜ now (counts .exit) ≡ cond (eqb (a .number) 0) (a .session .counts) (now (counts .entry)) ⌝ }
-    ensures standing { λ _. ⌜ now (standing .exit) ≡ cond (eqb (a .number) 0) (a .session .standing) (now (standing .entry)) ⌝ }
+    ensures bytes { λ _. ⌜ now (bytes .exit) ≡ bytesLeft (now (bytes .entry)) a ⌝ }
+    ensures floats { λ _. ⌜ now (floats .exit) ≡ floatsLeft (now (floats .entry)) a ⌝ }
 {
     if a.number != 0 {
         return a.number;
     }
-    let c = a.session.counts;
-    *counts = c;
-    let d = a.session.standing;
-    *standing = d;
-    0
-}
-
-// What an accepted render made; a refused one writes nothing.
-pub fn leave_starts(a: Answer, starts: &mut [f32; 320]) -> u32
-    ensures number { λ r. ⌜ r ≡ a .number ⌝ }
-    ensures starts { λ _. ⌜ now (starts .exit) ≡ cond (eqb (a .number) 0) (a .session .starts) (now (starts .entry)) ⌝ }
-{
-    if a.number != 0 {
-        return a.number;
-    }
-    let g = a.session.starts;
-    *starts = g;
+    let s = a.session;
+    hand_out_own(s, bytes, floats);
     0
 }
