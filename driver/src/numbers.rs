@@ -80,17 +80,29 @@ fn expected(n: usize, planted: &[u64], one: impl Fn(usize) -> u64) -> Vec<u64> {
 pub fn case(r: &mut Random, tally: &mut Tally) -> Result<(), String> {
     let given: Vec<u64> = (0..NUMBERS).map(|_| any(r, F64)).collect();
     let other: Vec<u64> = (0..NUMBERS).map(|_| any(r, F64)).collect();
+    let small: Vec<u64> = (0..NUMBERS).map(|_| any(r, F32)).collect();
     let (v, w) = (doubles(&given), doubles(&other));
+    let floats: Vec<f32> = small.iter().map(|b| f32::from_bits(*b as u32)).collect();
     let held64: Vec<u64> = (0..NUMBERS + 3).map(|_| r.pick(&F64.nans())).collect();
     let held32: Vec<u64> = (0..NUMBERS + 3).map(|_| r.pick(&F32.nans())).collect();
     let before64 = doubles(&held64);
     let before32: Vec<f32> = held32.iter().map(|b| f32::from_bits(*b as u32)).collect();
     let n = NUMBERS;
 
-    let mut to = before32;
+    let mut to = before32.clone();
     boundary::narrow_all(&v, &mut to);
     let told = expected(n, &held32, |i| u64::from((v[i] as f32).to_bits()));
     judged("narrow", F32, &given, &bits32(&to), &told, n)?;
+
+    let mut to = before32;
+    boundary::sqrt32_all(&floats, &mut to);
+    let told = expected(n, &held32, |i| u64::from(floats[i].sqrt().to_bits()));
+    judged("root of 32 bits", F32, &small, &bits32(&to), &told, n)?;
+
+    let mut to = before64.clone();
+    boundary::sqrt64_all(&v, &mut to);
+    let told = expected(n, &held64, |i| v[i].sqrt().to_bits());
+    judged("root of 64 bits", F64, &given, &bits64(&to), &told, n)?;
 
     let (mut sin, mut cos) = (before64.clone(), before64.clone());
     boundary::sin_cos_all(&v, &mut sin, &mut cos);
@@ -103,6 +115,6 @@ pub fn case(r: &mut Random, tally: &mut Tally) -> Result<(), String> {
     boundary::atan2_all(&v, &w, &mut to);
     let told = expected(n, &held64, |i| standins::atan2(v[i], w[i]).to_bits());
     judged("angle", F64, &given, &bits64(&to), &told, n)?;
-    tally.numbers_worked += 4 * n as u64;
+    tally.numbers_worked += 6 * n as u64;
     Ok(())
 }
