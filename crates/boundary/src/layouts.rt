@@ -6,6 +6,8 @@ ghost use Rattle.gains.specs.Gains.{gainsNumber, gainsBuffer};
 ghost use Rattle.carried.specs.Records.{recordBytes, recordFloats, recordFrom};
 ghost use Rattle.carried.specs.Rows.{rowsOf};
 ghost use Rattle.carried.specs.Sessions.{written};
+use carried::record::RecordBytes;
+use carried::record::RecordFloats;
 use carried::record::hand_out;
 use carried::record::taken_in;
 
@@ -15,8 +17,8 @@ pub extern "C" fn panner_new(
     positions: &[f32],
     lfe: &[usize],
     imaginary: &mut usize,
-    bytes: &mut [u8; 1022],
-    floats: &mut [f32; 1080],
+    bytes: &mut RecordBytes,
+    floats: &mut RecordFloats,
 ) -> u32
     ensures number { λ r. ⌜ r ≡ newOf (now (positions .entry)) (now (lfe .entry)) .number ⌝ }
     ensures imaginary { λ r. ⌜ now (imaginary .exit) ≡ written r (newOf (now (positions .entry)) (now (lfe .entry)) .imaginary) (now (imaginary .entry)) ⌝ }
@@ -37,8 +39,8 @@ pub extern "C" fn panner_new(
 // `panner::num_outputs`: 0 and the count of outputs, or 11 and the count stays as it was.
 #[no_mangle]
 pub extern "C" fn panner_num_outputs(
-    bytes: &[u8; 1022],
-    floats: &[f32; 1080],
+    bytes: &RecordBytes,
+    floats: &RecordFloats,
     count: &mut usize,
 ) -> u32
     ensures number { λ r. ⌜ r ≡ numOutputsOf (recordFrom (now (bytes .entry)) (now (floats .entry))) .number ⌝ }
@@ -58,8 +60,8 @@ pub extern "C" fn panner_num_outputs(
 // Slots from the outputs on, and all beside 11, keep their bits.
 #[no_mangle]
 pub extern "C" fn panner_gains(
-    bytes: &[u8; 1022],
-    floats: &[f32; 1080],
+    bytes: &RecordBytes,
+    floats: &RecordFloats,
     az: f32,
     el: f32,
     out: &mut [f32],
@@ -74,8 +76,8 @@ pub extern "C" fn panner_gains(
 // A row for each direction, `width` places each; the record is taken in once. Of NaNs as `panner_gains`.
 #[no_mangle]
 pub extern "C" fn panner_gains_all(
-    bytes: &[u8; 1022],
-    floats: &[f32; 1080],
+    bytes: &RecordBytes,
+    floats: &RecordFloats,
     az: &[f32],
     el: &[f32],
     width: usize,

@@ -5,6 +5,8 @@ ghost use Rattle.session.specs.Session.{renderedBuffer};
 ghost use Rattle.session.specs.Answers.{answerOf};
 ghost use Rattle.session_open.specs.Open.{openOf};
 ghost use Rattle.carried.specs.Sessions.{sessionBytes, sessionFloats, sessionFrom, written, bytesLeft, floatsLeft, placeTakeBack};
+use carried::sessions::SessionBytes;
+use carried::sessions::SessionFloats;
 use carried::sessions::hand_out;
 use carried::sessions::leave;
 use carried::sessions::taken_in;
@@ -16,8 +18,8 @@ pub extern "C" fn panner_open(
     lfe: &[usize],
     sources: usize,
     imaginary: &mut usize,
-    bytes: &mut [u8; 1031],
-    floats: &mut [f32; 1656],
+    bytes: &mut SessionBytes,
+    floats: &mut SessionFloats,
 ) -> u32
     ensures number { λ r. ⌜ r ≡ openOf (now (positions .entry)) (now (lfe .entry)) sources .number ⌝ }
     ensures imaginary { λ r. ⌜ now (imaginary .exit) ≡ written r (openOf (now (positions .entry)) (now (lfe .entry)) sources .imaginary) (now (imaginary .entry)) ⌝ }
@@ -38,8 +40,8 @@ pub extern "C" fn panner_open(
 // `session::place`. Every float travels, and an angle that is not finite is written as +0.
 #[no_mangle]
 pub extern "C" fn panner_place(
-    bytes: &mut [u8; 1031],
-    floats: &mut [f32; 1656],
+    bytes: &mut SessionBytes,
+    floats: &mut SessionFloats,
     source: usize,
     az: f32,
     el: f32,
@@ -56,8 +58,8 @@ pub extern "C" fn panner_place(
 // `session::take_back`. Every float travels.
 #[no_mangle]
 pub extern "C" fn panner_take_back(
-    bytes: &mut [u8; 1031],
-    floats: &mut [f32; 1656],
+    bytes: &mut SessionBytes,
+    floats: &mut SessionFloats,
     source: usize,
 ) -> u32
     ensures number { λ r. ⌜ r ≡ answerOf (sessionFrom (now (bytes .entry)) (now (floats .entry))) (takeBack source) .number ⌝ }
@@ -72,8 +74,8 @@ pub extern "C" fn panner_take_back(
 // `session::settle`. Every float travels, the moved direction of a session made by hand too: it keeps its bits.
 #[no_mangle]
 pub extern "C" fn panner_settle(
-    bytes: &mut [u8; 1031],
-    floats: &mut [f32; 1656],
+    bytes: &mut SessionBytes,
+    floats: &mut SessionFloats,
     source: usize,
 ) -> u32
     ensures number { λ r. ⌜ r ≡ answerOf (sessionFrom (now (bytes .entry)) (now (floats .entry))) (settle source) .number ⌝ }
@@ -89,8 +91,8 @@ pub extern "C" fn panner_settle(
 // payload are the program's choice, and each is a quiet NaN. The other places of the session keep their bits, and all places beside a refusal.
 #[no_mangle]
 pub extern "C" fn panner_render(
-    bytes: &mut [u8; 1031],
-    floats: &mut [f32; 1656],
+    bytes: &mut SessionBytes,
+    floats: &mut SessionFloats,
     block: usize,
     samples: &[f32],
     outputs: &mut [f32],
@@ -108,8 +110,8 @@ pub extern "C" fn panner_render(
 // For each direction a place and a take back, up to the first that is refused, on a session that is taken in once; nothing is written where one is.
 #[no_mangle]
 pub extern "C" fn panner_place_take_back_all(
-    bytes: &mut [u8; 1031],
-    floats: &mut [f32; 1656],
+    bytes: &mut SessionBytes,
+    floats: &mut SessionFloats,
     source: usize,
     az: &[f32],
     el: &[f32],

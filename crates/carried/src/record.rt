@@ -21,6 +21,16 @@ use panner::VbapPanner;
 use planar::Law;
 use planar::PlanarPair;
 
+// A record's bytes, 1,022: 8 of the head, 120 of the pairs, twice 40 slots, 240 point numbers, 14 counts and 560 neighbours.
+pub const BYTES: usize = 8 + 120 + 40 + 40 + 240 + 14 + 560;
+
+// A record's floats, 1,080: 240 of the pairs, 120 of the points, 720 of the triplets.
+pub const FLOATS: usize = 240 + 120 + 720;
+
+pub type RecordBytes = [u8; BYTES];
+
+pub type RecordFloats = [f32; FLOATS];
+
 // The outputs of what is no record: over 40, so that every call refuses it with 11. Origin: the greatest byte.
 const NO_RECORD: u8 = 255;
 

@@ -11,8 +11,24 @@ ghost use Rattle.carried.specs.Sessions.{sessionBytes, sessionFloats, ow
 use crate::copies::copy_bytes;
 use crate::copies::copy_floats;
 use crate::record;
+use mix::GAINS;
+use mix::SOURCES;
+use mix::Starts;
 use session::Answer;
 use session::Session;
+use standing::Counts;
+use standing::PLACES;
+use standing::Standing;
+
+// A session's bytes, 1,031: those of the record, the count of sources, and the standing counts.
+pub const BYTES: usize = record::BYTES + 1 + SOURCES;
+
+// A session's floats, 1,656: those of the record, the start rows, and the standing directions.
+pub const FLOATS: usize = record::FLOATS + GAINS + PLACES;
+
+pub type SessionBytes = [u8; BYTES];
+
+pub type SessionFloats = [f32; FLOATS];
 
 // The session that the arrays stand for.
 pub fn taken_in(bytes: &[u8], floats: &[f32]) -> Session
@@ -20,11 +36,11 @@ pub fn taken_in(bytes: &[u8], floats: &[f32]) -> Session
     ensures { λ r. ⌜ r ≡ sessionFrom (now (bytes .entry)) (now (floats .entry)) ⌝ }
 {
     let panner = record::taken_in(bytes, floats);
-    let mut counts = [0u8; 8];
+    let mut counts = [0u8; SOURCES];
     copy_bytes(bytes, 1023, &mut counts, 0, 8);
-    let mut starts = [0.0f32; 320];
+    let mut starts = [0.0f32; GAINS];
     copy_floats(floats, 1080, &mut starts, 0, 320);
-    let mut standing = [0.0f32; 256];
+    let mut standing = [0.0f32; PLACES];
     copy_floats(floats, 1400, &mut standing, 0, 256);
     Session {
         panner,
@@ -36,7 +52,7 @@ pub fn taken_in(bytes: &[u8], floats: &[f32]) -> Session
 }
 
 // The session's own bytes: the count of sources and the standing counts.
-fn put_counts(sources: u8, counts: [u8; 8], to: &mut [u8])
+fn put_counts(sources: u8, counts: Counts, to: &mut [u8])
     requires { ⌜ length (now to) ≡ 1031 ⌝ }
     ensures { λ _. ⌜ now (to .exit) ≡ pasted (pasted (now (to .entry)) 1022 (sources ∷ []) 1) 1023 counts 8 ⌝ }
     ensures long { λ _. ⌜ length counts ≡ 8 ⌝ }
@@ -47,7 +63,7 @@ fn put_counts(sources: u8, counts: [u8; 8], to: &mut [u8])
 }
 
 // And its own floats: the start rows and the standing directions.
-fn put_rows(starts: [f32; 320], standing: [f32; 256], to: &mut [f32])
+fn put_rows(starts: Starts, standing: Standing, to: &mut [f32])
     requires { ⌜ length (now to) ≡ 1656 ⌝ }
     ensures { λ _. ⌜ now (to .exit) ≡ pasted (pasted (now (to .entry)) 1080 starts 320) 1400 standing 256 ⌝ }
     ensures long { λ _. ⌜ (length starts ≡ 320) × (length standing ≡ 256) ⌝ }

@@ -35,6 +35,8 @@ pub fn kind(k: Kind) {
         Kind::Silent => text(b"silent: no active speaker"),
         Kind::Mono => text(b"mono: one active speaker"),
         Kind::Planar => text(b"planar: all active speakers near the horizon, panned between pairs"),
-        Kind::Hull => text(b"hull: active speakers above or below the horizon, panned between triplets"),
+        Kind::Hull => text(
+            b"hull: active speakers above or below the horizon, panned between triplets",
+        ),
     }
 }

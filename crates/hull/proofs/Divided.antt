@@ -12,12 +12,12 @@ use Rattle.lists.specs.Lists.{Once, every}
 use Rattle.lists.proofs.Ranges.{getD-map}
 use Rattle.lists.proofs.Once.{every-mem, mem-filter, filter-mem, once-filter, once-places, once-fewer, once-same}
 use Rattle.ieee.specs.Values.{abs}
-use Rattle.vector.specs.Vector.{Points, lengthOf}
-use Rattle.faces.specs.Faces.{tiny, leastDistance, Plane, point, others, rawNormal, planeThrough, allBelow, allAbove}
+use Rattle.vector.specs.Vector.{Points, determinantOf, lengthOf}
+use Rattle.faces.specs.Faces.{leastNormal, leastDistance, Plane, point, others, rawNormal, planeThrough, allBelow, allAbove}
 use Rattle.fan.specs.Meaning.{Triple, Among, isOf, fanFrom, inPlane, fanKeeps, SeenAlike}
 use Rattle.fan.proofs.Rings.{fan-among, fan-count}
 use Rattle.fan.proofs.Meaning.{among-members, fan-meaning}
-use Rattle.hull.specs.Triplets.{Triplet, skip, open-hull, keep, determinantOf, verdictBy, verdict, tripletsOf}
+use Rattle.hull.specs.Triplets.{Triplet, skip, open-hull, keep, leastDeterminant, verdictBy, verdict, tripletsOf}
 use Rattle.hull.specs.Meaning.{Before, by-i, by-j, by-k}
 use Rattle.hull.specs.Divided.{outwardPlane, otherTests, numbers, keptOf, DividedOnce, NotTwice}
 use Rattle.hull.proofs.Verdicts.{tripletAt}
@@ -33,7 +33,7 @@ module _ (pts : Points) (t : Triple) where
   rest = others (length pts) (t .i) (t .j) (t .k)
 
   abbrev isThin : Bool
-  isThin = lt (lengthOf (rawNormal (point pts (t .i)) (point pts (t .j)) (point pts (t .k)))) tiny
+  isThin = lt (lengthOf (rawNormal (point pts (t .i)) (point pts (t .j)) (point pts (t .k)))) leastNormal
 
   abbrev isFace : Bool
   isFace = allBelow pts through rest || allAbove pts through rest
@@ -42,7 +42,7 @@ module _ (pts : Points) (t : Triple) where
   isNear = lt (outwardPlane pts t .d) leastDistance
 
   abbrev isSmall : Bool
-  isSmall = lt (abs (determinantOf (point pts (t .i)) (point pts (t .j)) (point pts (t .k)))) tiny
+  isSmall = lt (abs (determinantOf (point pts (t .i)) (point pts (t .j)) (point pts (t .k)))) leastDeterminant
 
   -- what is kept, the fan's test keeps
   kept-fan : (u : Triplet) → verdict pts (t .i) (t .j) (t .k) ≡ keep u → fanKeeps pts (outwardPlane pts) t ≡ true

@@ -17,14 +17,13 @@ use Rattle.ieee.specs.Remainder.{remEuclidOf}
 use Rattle.root.specs.Root.{sqrtOf}
 use Rattle.trig.specs.Series.{coefficients, sumOf}
 use Rattle.arctangent.specs.Arctangent.{arctangentCoefficients, halvedOf, eightfoldOf, atanOf, ratioOf, firstQuadrantOf, withSignOfX, withSignOfY, atan2Of}
-use Rattle.vector.specs.Vector.{minor, crossOf, dotIn, dotOf, lessOf, overOf, negatedOf, lengthOf}
+use Rattle.vector.specs.Vector.{minor, crossOf, determinantOf, dotIn, dotOf, lessOf, overOf, negatedOf, lengthOf}
 use Rattle.order.specs.Order.{insertOf, sortedOf}
 use Rattle.faces.specs.Faces.{Plane, others, height, rawNormal, planeThrough, allBelow, allAbove, outward}
 use Rattle.faces.specs.Steps.{planeOf}
 use Rattle.fan.specs.Fan.{coplanar, helper, basisU, angleIn, fan}
 use Rattle.fan.specs.Meaning.{Triple, Among, fanFrom, inPlane, ringBy, SeenAlike}
 use Rattle.fan.proofs.Meaning.{among-members}
-use Rattle.hull.specs.Triplets.{determinantOf}
 use Rattle.hull.specs.Divided.{outwardPlane, otherTests, square, SquareDivided}
 use Rattle.hull.proofs.Divided.{divided-once}
 

@@ -8,10 +8,10 @@ use lib.ListN.{length}
 use lib.Ieee.{Float, neg, lt}
 use Rattle.lists.specs.Lists.{Once, filter, every}
 use Rattle.ieee.specs.Values.{+0, 1·0, abs}
-use Rattle.vector.specs.Vector.{Vector, Points, lengthOf}
-use Rattle.faces.specs.Faces.{tiny, leastDistance, Plane, point, others, rawNormal, planeThrough, allBelow, allAbove, outward}
+use Rattle.vector.specs.Vector.{Vector, Points, determinantOf, lengthOf}
+use Rattle.faces.specs.Faces.{leastNormal, leastDistance, Plane, point, others, rawNormal, planeThrough, allBelow, allAbove, outward}
 use Rattle.fan.specs.Meaning.{Triple, isOf, fanFrom, SeenAlike}
-use Rattle.hull.specs.Triplets.{Triplet, determinantOf, tripletsOf}
+use Rattle.hull.specs.Triplets.{Triplet, leastDeterminant, tripletsOf}
 
 -- the plane through a triple, turned outward: the one that tests 3 and 4 go by
 unfoldable pub outwardPlane : Points → Triple → Plane
@@ -27,10 +27,10 @@ otherTests pts t =
     let c = point pts (t .k) in
     let f = planeThrough a b c in
     let ps = others (length pts) (t .i) (t .j) (t .k) in
-    not (lt (lengthOf (rawNormal a b c)) tiny)
+    not (lt (lengthOf (rawNormal a b c)) leastNormal)
     && (allBelow pts f ps || allAbove pts f ps)
     && not (lt (outwardPlane pts t .d) leastDistance)
-    && not (lt (abs (determinantOf a b c)) tiny)
+    && not (lt (abs (determinantOf a b c)) leastDeterminant)
 
 -- the triples of a set of points that are in the list of triplets
 abbrev pub numbers : Triplet → Triple
