@@ -12,7 +12,7 @@ use Rattle.lists.specs.Lists.{range, every}
 use Rattle.lists.proofs.Ranges.{length-range, getD-range}
 use Rattle.lists.proofs.Tests.{every-no, every-yes, every-end, every-always}
 use Rattle.panner.specs.Malformed.{countsOver, malformedOf}
-use Rattle.session.specs.Session.{malformedSession}
+use Rattle.session.specs.Session.{malformedBy}
 use Rattle.carried.specs.Records.{known, recordFrom}
 use Rattle.carried.specs.Sessions.{sessionFrom}
 use Rattle.carried.specs.Meaning.{UnknownMalformed}
@@ -58,5 +58,5 @@ module _ (bytes : List ℕ) (i : ℕ) where
 
 -- what is no record is malformed: its outputs are over 40
 pub unknown-malformed : UnknownMalformed
-unfolding recordFrom malformedOf countsOver malformedSession sessionFrom
+unfolding recordFrom malformedOf countsOver malformedBy sessionFrom
 unknown-malformed bytes floats h = (rw h refl, rw h refl)
