@@ -118,6 +118,9 @@ pub fn render(s: Session) -> Session {
 
 // ---- what a session holds
 
+// Directions of a source that may stand. Origin: the depth of crate standing.
+const MOST_STANDING: usize = DEPTH as usize;
+
 // The standing directions of a source, as they are held.
 fn directions(standing: &Standing, source: usize, n: usize)
     requires { ⌜ (source < 8) × (n ≤ depth) ⌝ }
@@ -156,7 +159,7 @@ pub fn holds(s: Session) {
         text(b": standing directions");
         byte(counts[i], 3);
         end();
-        directions(&standing, i, count(counts[i], DEPTH as usize));
+        directions(&standing, i, count(counts[i], MOST_STANDING));
         start_row(&starts, i);
         i += 1;
     }
