@@ -1,4 +1,4 @@
-//! The functions of crate `boundary`: those of `include/panner.h`, and the number work of whole
+//! The functions of crate `boundary_exports`: those of `include/panner.h`, and the number work of whole
 //! arrays. A slice crosses as its pointer and its length; a record and a session as two arrays.
 
 /// Places of a record and of a session. Origin: `include/panner.h`.

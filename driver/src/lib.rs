@@ -1,4 +1,4 @@
-//! The functions of crate `boundary` in Rust, and the way between its arrays and the oracle's
+//! The functions of crate `boundary_exports` in Rust, and the way between its arrays and the oracle's
 //! records.
 
 pub mod boundary;

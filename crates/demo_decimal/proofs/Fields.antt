@@ -9,7 +9,7 @@ use lib.Dec.{T, leb}
 use lib.Pow.{pow-pos, pow-mono}
 use lib.Ieee.{Float, nan, inf, binary32, fits, isNan, top, toBits}
 use lib.Ieee.Nearest.{closest}
-use Rattle.ieee.proofs.Read.{value-low, value-mid, value-top}
+use Rattle.float_order.proofs.Read.{value-low, value-mid, value-top}
 use Rattle.demo_decimal.specs.declared.Size.the-variants.{Steps, Large, Nan}
 use Rattle.demo_decimal.specs.Decimal.{decimalOf}
 use Rattle.demo_decimal.proofs.Steps.{steps, large, shifted}

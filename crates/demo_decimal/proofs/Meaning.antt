@@ -9,7 +9,7 @@ use lib.Dec.{T, ltb, ltb→lt, nltb→le}
 use lib.Ieee.{up, down}
 use lib.Ieee.Fits.{down-pos}
 use lib.Ieee.Nearest.{closest}
-use Rattle.widths.specs.Meaning.{apart}
+use Rattle.float_widths.specs.Meaning.{apart}
 use Rattle.demo_decimal.specs.declared.Size.the-variants.{Steps, Large}
 use Rattle.demo_decimal.specs.Decimal.{decimalOf}
 use Rattle.demo_decimal.specs.Meaning.{Nearest, DecimalNearest}

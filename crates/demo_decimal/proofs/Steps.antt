@@ -10,7 +10,7 @@ use lib.Ieee.{Float, nan, inf, fin, up, down, nearest}
 use lib.Ieee.Fits.{down-pos}
 use lib.Ieee.Exact.{HasValue}
 use lib.Ieee.Nearest.{closest, closest-same}
-use Rattle.ieee.proofs.Laws.{is-lt, is-gt, is-eq}
+use Rattle.float_order.proofs.Laws.{is-lt, is-gt, is-eq}
 use Rattle.demo_decimal.specs.declared.Size.the-variants.{Steps, Large}
 use Rattle.demo_decimal.specs.Decimal.{decimalOf}
 

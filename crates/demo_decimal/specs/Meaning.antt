@@ -4,7 +4,7 @@ use mathlib.Core.Bool.{Bool}
 use Prim.Native.Nat.{ℕ, _*_, _%_, _^_, _≤_}
 use lib.IntN.{ℤ}
 use lib.Ieee.{fin, up, down}
-use Rattle.widths.specs.Meaning.{apart}
+use Rattle.float_widths.specs.Meaning.{apart}
 use Rattle.demo_decimal.specs.declared.Size.the-variants.{Steps}
 use Rattle.demo_decimal.specs.Decimal.{decimalOf}
 

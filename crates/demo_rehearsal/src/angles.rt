@@ -8,11 +8,11 @@ const HALF_TURN: f64 = 180.0;
 
 // The radians that a call is given.
 pub fn radians(degrees: f32) -> f32 {
-    widths::narrow(widths::widen(degrees) * PI64 / HALF_TURN)
+    float_widths::narrow(float_widths::widen(degrees) * PI64 / HALF_TURN)
 }
 
 fn degrees(radians: f64) -> f32 {
-    widths::narrow(radians * HALF_TURN / PI64)
+    float_widths::narrow(radians * HALF_TURN / PI64)
 }
 
 // Azimuth of a direction, from the front to the right, -180 to 180; 0 straight up and down, where none is defined.
@@ -20,13 +20,13 @@ pub fn azimuth(x: f32, z: f32) -> f32 {
     if (x == 0.0) & (z == 0.0) {
         return 0.0;
     }
-    degrees(arctangent::atan2(widths::widen(x), -widths::widen(z)))
+    degrees(float_arctangent::atan2(float_widths::widen(x), -widths::widen(z)))
 }
 
 // Elevation of a direction, upwards from the horizon.
 pub fn elevation(x: f32, y: f32, z: f32) -> f32 {
-    let right = widths::widen(x);
-    let back = widths::widen(z);
-    let level = root::sqrt64(right * right + back * back);
-    degrees(arctangent::atan2(widths::widen(y), level))
+    let right = float_widths::widen(x);
+    let back = float_widths::widen(z);
+    let level = float_root::sqrt64(right * right + back * back);
+    degrees(float_arctangent::atan2(float_widths::widen(y), level))
 }

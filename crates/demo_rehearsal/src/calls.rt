@@ -1,6 +1,6 @@
 // Calls on a session: what each one answers, and what the session holds then.
 ghost use Prim.Native.Nat.{_≤_, _<_};
-ghost use Rattle.history.specs.History.{depth};
+ghost use Rattle.session_history.specs.History.{depth};
 use crate::angles::radians;
 use crate::columns::blanks;
 use crate::columns::byte;
@@ -12,13 +12,13 @@ use crate::columns::whole;
 use crate::report::count;
 use crate::rows::gains_of;
 use crate::words::answer;
-use mix::ROW;
-use mix::Starts;
-use session::Answer;
-use session::Session;
-use standing::DEPTH;
-use standing::Standing;
-use standing::WIDTH;
+use mix_block::ROW;
+use mix_block::Starts;
+use session_calls::Answer;
+use session_calls::Session;
+use session_standing::DEPTH;
+use session_standing::Standing;
+use session_standing::WIDTH;
 
 // Width of a call's name. Origin: a choice of this report.
 const CALL: usize = 34;
@@ -49,7 +49,7 @@ fn on_source(name: &[u8], source: usize) {
 pub fn place(s: Session, source: usize, azimuth: f32, elevation: f32) -> Session {
     let az = radians(azimuth);
     let el = radians(elevation);
-    let r = session::place(s, source, az, el);
+    let r = session_calls::place(s, source, az, el);
     on_source(b"place", source);
     float(azimuth, 2, 9);
     float(elevation, 2, 11);
@@ -71,12 +71,12 @@ fn answered(r: Answer) -> Session {
 
 pub fn take_back(s: Session, source: usize) -> Session {
     on_source(b"take back", source);
-    answered(session::take_back(s, source))
+    answered(session_calls::take_back(s, source))
 }
 
 pub fn settle(s: Session, source: usize) -> Session {
     on_source(b"settle", source);
-    answered(session::settle(s, source))
+    answered(session_calls::settle(s, source))
 }
 
 // ---- render
@@ -109,7 +109,7 @@ fn all_heard(out: &[f32; 100]) {
 pub fn render(s: Session) -> Session {
     let samples = [1.0f32, 1.0, 1.0, 1.0, 0.5, 0.5, 0.5, 0.5];
     let mut out = [0.0f32; 100];
-    let r = render::render(s, 4, &samples, &mut out);
+    let r = session_render::render(s, 4, &samples, &mut out);
     told(b"render 4 samples", r.number);
     all_heard(&out);
     let next = r.session;
@@ -118,7 +118,7 @@ pub fn render(s: Session) -> Session {
 
 // ---- what a session holds
 
-// Directions of a source that may stand. Origin: the depth of crate standing.
+// Directions of a source that may stand. Origin: the depth of crate session_standing.
 const MOST_STANDING: usize = DEPTH as usize;
 
 // The standing directions of a source, as they are held.

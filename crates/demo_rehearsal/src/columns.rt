@@ -109,7 +109,7 @@ pub fn float(x: f32, places: u32, width: usize)
 {
     let size = demo_decimal::decimal(x, places);
     match size {
-        Size::Steps(n) => steps(ieee::sign_bit32(x), n, places, width),
+        Size::Steps(n) => steps(float_order::sign_bit32(x), n, places, width),
         Size::Large => right(b"large", width),
         Size::Nan => right(b"nan", width),
     }

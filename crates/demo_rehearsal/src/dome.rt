@@ -1,5 +1,5 @@
 // The dome of the rehearsal: rings of 12, 8 and 3 at elevations 0°, 30° and 60°, one speaker at the zenith, and an LFE.
-use layout::NewPanner;
+use layout_new::NewPanner;
 use session_open::Opened;
 
 // Right, up and back, in units of the dome's radius.
@@ -59,7 +59,7 @@ fn positions() -> [f32; 75] {
 pub fn new() -> NewPanner {
     let numbers = positions();
     let lfe = LFE;
-    layout::new(&numbers, &lfe)
+    layout_new::new(&numbers, &lfe)
 }
 
 pub fn open(sources: usize) -> Opened {

@@ -11,8 +11,8 @@ use crate::columns::text;
 use crate::columns::whole;
 use crate::words::answer;
 use crate::words::kind;
-use layout::NewPanner;
-use panner::VbapPanner;
+use layout_new::NewPanner;
+use layout_record::VbapPanner;
 
 // Triplets on a line. Origin: six of ten bytes keep it within 80.
 const TRIPLETS_A_LINE: usize = 6;

@@ -8,7 +8,7 @@ use crate::columns::left;
 use crate::columns::line;
 use crate::columns::right;
 use crate::columns::whole;
-use panner::VbapPanner;
+use layout_record::VbapPanner;
 
 // Gains on a line. Origin: four of 13 bytes behind the margin.
 const GAINS_A_LINE: usize = 4;
@@ -55,18 +55,18 @@ fn power(row: &[f32]) -> f32 {
     let mut sum = 0.0f64;
     let mut i: usize = 0;
     while i < row.len() {
-        let g = widths::widen(row[i]);
+        let g = float_widths::widen(row[i]);
         sum = sum + g * g;
         i += 1;
     }
-    widths::narrow(sum)
+    float_widths::narrow(sum)
 }
 
 // ---- the table
 
 fn row_of(p: VbapPanner, az: f32, el: f32) -> [f32; 40] {
     let mut row = [0.0f32; 40];
-    gains::gains(p, az, el, &mut row);
+    row_gains::gains(p, az, el, &mut row);
     row
 }
 

@@ -10,7 +10,7 @@ use crate::columns::left;
 use crate::columns::line;
 use crate::columns::right;
 use crate::dome;
-use session::Session;
+use session_calls::Session;
 use session_open::Opened;
 
 fn heading() {
@@ -59,7 +59,7 @@ fn refused_full(fresh: Session) {
     let mut s = fresh;
     let mut i: usize = 0;
     while i < 16 {
-        let r = session::place(s, 0, 0.0, 0.0);
+        let r = session_calls::place(s, 0, 0.0, 0.0);
         s = r.session;
         i += 1;
     }
@@ -68,7 +68,7 @@ fn refused_full(fresh: Session) {
 }
 
 fn rendered(call: &[u8], s: Session, block: usize, samples: &[f32], out: &mut [f32]) {
-    let r = render::render(s, block, samples, out);
+    let r = session_render::render(s, block, samples, out);
     told(call, r.number);
 }
 

@@ -2,7 +2,7 @@
 use crate::columns::end;
 use crate::columns::text;
 use crate::columns::whole;
-use panner::Kind;
+use layout_record::Kind;
 
 fn meaning(number: u32) {
     match number {

@@ -9,16 +9,16 @@ use lib.Dec.{eqb, ltb}
 use lib.Ieee.{Float}
 use lib.ListN.{length}
 use Rattle.lists.specs.Lists.{any}
-use Rattle.panner.specs.Panner.{noPanner}
-use Rattle.panner.specs.Malformed.{malformedOf}
-use Rattle.panner.proofs.WellFormed.{well-formed}
-use Rattle.layout.specs.Layout.{outputsOf, active, layoutOf, tooManyTriplets, newRefusal, pannerOf}
-use Rattle.layout.proofs.Answers.{accepted-fits}
-use Rattle.mix.specs.Turns.{mostSources}
-use Rattle.history.specs.Calls.{place, takeBack, settle, render}
-use Rattle.history.specs.History.{depth}
-use Rattle.session.specs.Session.{malformedBy, malformedSession, numberOf}
-use Rattle.session.proofs.Refusals.{formed-is, malformed-source}
+use Rattle.layout_record.specs.Panner.{noPanner}
+use Rattle.layout_record.specs.Malformed.{malformedOf}
+use Rattle.layout_record.proofs.WellFormed.{well-formed}
+use Rattle.layout_new.specs.Layout.{outputsOf, active, layoutOf, tooManyTriplets, newRefusal, pannerOf}
+use Rattle.layout_new.proofs.Answers.{accepted-fits}
+use Rattle.mix_block.specs.Inner.Turns.{mostSources}
+use Rattle.session_history.specs.Calls.{place, takeBack, settle, render}
+use Rattle.session_history.specs.History.{depth}
+use Rattle.session_calls.specs.Session.{malformedBy, malformedSession, numberOf}
+use Rattle.session_calls.proofs.Refusals.{formed-is, malformed-source}
 use Rattle.session_open.specs.Open.{fresh, openRefusal, noSession, openOf}
 use Rattle.session_open.specs.Meaning.{NoSessionRefused, OpenedFormed}
 use Rattle.session_open.specs.declared.Opened.{Opened}

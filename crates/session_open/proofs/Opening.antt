@@ -1,4 +1,4 @@
--- The answer of open, case by case, from the answer of `layout::new`: 1 and 2 are its own, then 3, then 4. Assumes nothing.
+-- The answer of open, case by case, from the answer of `layout_new::new`: 1 and 2 are its own, then 3, then 4. Assumes nothing.
 use Prim.Native.Nat.{ℕ, _%_, _≤_}
 use mathlib.Core.Path.{_≡_, refl, sym, ap, _∙_}
 use mathlib.Core.Bool.{Bool, true, false, _||_, not, cond, false≢true, true≢false}
@@ -9,14 +9,14 @@ use lib.Dec.{eqb, ltb}
 use lib.Ieee.{Float}
 use lib.ListN.{length}
 use Rattle.lists.specs.Lists.{from, range, collect}
-use Rattle.panner.specs.Shape.{imaginaryIn}
-use Rattle.panner.specs.Panner.{noPanner}
+use Rattle.layout_record.specs.Shape.{imaginaryIn}
+use Rattle.layout_record.specs.Panner.{noPanner}
 use Rattle.lists.proofs.Tests.{neither}
-use Rattle.layout.specs.declared.NewPanner.{NewPanner}
-use Rattle.layout.specs.Layout.{outputsOf, active, shapeOf, layoutOf, tooManyTriplets, newRefusal, pannerOf, newOf}
-use Rattle.layout.specs.Answers.{accepted}
-use Rattle.layout.proofs.Answers.{accepted-is}
-use Rattle.mix.specs.Turns.{mostSources}
+use Rattle.layout_new.specs.declared.NewPanner.{NewPanner}
+use Rattle.layout_new.specs.Layout.{outputsOf, active, shapeOf, layoutOf, tooManyTriplets, newRefusal, pannerOf, newOf}
+use Rattle.layout_new.specs.Inner.Answers.{accepted}
+use Rattle.layout_new.proofs.Answers.{accepted-is}
+use Rattle.mix_block.specs.Inner.Turns.{mostSources}
 use Rattle.session_open.specs.Open.{fresh, openRefusal, refusedBy, openOf}
 use Rattle.session_open.specs.declared.Opened.{Opened}
 

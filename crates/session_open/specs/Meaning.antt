@@ -4,8 +4,8 @@ use mathlib.Core.Path.{_≡_}
 use mathlib.Core.Bool.{false}
 use mathlib.Core.List.{List}
 use lib.Ieee.{Float}
-use Rattle.history.specs.Calls.{Call}
-use Rattle.session.specs.Session.{malformedSession, numberOf}
+use Rattle.session_history.specs.Calls.{Call}
+use Rattle.session_calls.specs.Session.{malformedSession, numberOf}
 use Rattle.session_open.specs.Open.{noSession, openOf}
 
 -- what stands beside a refused open, every call refuses with 11

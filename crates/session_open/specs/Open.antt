@@ -5,14 +5,14 @@ use mathlib.Core.List.{List}
 use lib.Dec.{eqb, ltb}
 use lib.ListN.{length, replicate}
 use lib.Ieee.{Float}
-use Rattle.ieee.specs.Values.{+0}
-use Rattle.panner.specs.declared.VbapPanner.{VbapPanner}
-use Rattle.panner.specs.Shape.{imaginaryIn}
-use Rattle.panner.specs.Panner.{noPanner}
-use Rattle.layout.specs.Layout.{outputsOf, active, layoutOf, tooManyTriplets, pannerOf}
-use Rattle.mix.specs.Turns.{mostSources, rowPlaces}
-use Rattle.history.specs.History.{depth}
-use Rattle.session.specs.declared.Session.{Session}
+use Rattle.float_order.specs.Values.{+0}
+use Rattle.layout_record.specs.declared.VbapPanner.{VbapPanner}
+use Rattle.layout_record.specs.Shape.{imaginaryIn}
+use Rattle.layout_record.specs.Panner.{noPanner}
+use Rattle.layout_new.specs.Layout.{outputsOf, active, layoutOf, tooManyTriplets, pannerOf}
+use Rattle.mix_block.specs.Inner.Turns.{mostSources, rowPlaces}
+use Rattle.session_history.specs.History.{depth}
+use Rattle.session_calls.specs.declared.Session.{Session}
 use Rattle.session_open.specs.declared.Opened.{Opened}
 
 -- fresh: empty lists, start rows of +0, unused places +0

@@ -1,12 +1,12 @@
 // Open: document 01, "Returned numbers" 1 to 4, and the fresh session of "Session".
 ghost use mathlib.Core.Path.{_≡_};
-ghost use Rattle.panner.specs.Panner.{noPanner};
+ghost use Rattle.layout_record.specs.Panner.{noPanner};
 ghost use Rattle.session_open.specs.Open.{fresh, refusedBy, openOf};
-use mix::GAINS;
-use mix::SOURCES;
-use panner::VbapPanner;
-use session::Session;
-use standing::PLACES;
+use layout_record::VbapPanner;
+use mix_block::GAINS;
+use mix_block::SOURCES;
+use session_calls::Session;
+use session_standing::PLACES;
 
 // What `open` answers: 0 or the refusal's number, how many imaginary points were made, and the session.
 pub struct Opened {
@@ -34,7 +34,7 @@ fn no_panner() -> VbapPanner
 {
     let positions = [0.0f32; 0];
     let lfe = [0usize; 0];
-    let made = layout::new(&positions, &lfe);
+    let made = layout_new::new(&positions, &lfe);
     let panner = made.panner;
     panner
 }
@@ -54,7 +54,7 @@ fn refused(why: u32) -> Opened
 pub fn open(positions: &[f32], lfe: &[usize], sources: usize) -> Opened
     ensures { λ r. ⌜ r ≡ openOf (now (positions .entry)) (now (lfe .entry)) sources ⌝ }
 {
-    let made = layout::new(positions, lfe);
+    let made = layout_new::new(positions, lfe);
     let why = made.number;
     if (why == 1) | (why == 2) {
         return refused(why);

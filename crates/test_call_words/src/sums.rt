@@ -1,8 +1,8 @@
 // The sums of docs/CASES.md, "Lists of calls": words of 32 bits as the digits of a number, modulo a prime.
-use panner::Kind;
-use panner::VbapPanner;
-use planar::Law;
-use planar::PlanarPair;
+use layout_planar::Law;
+use layout_planar::PlanarPair;
+use layout_record::Kind;
+use layout_record::VbapPanner;
 use test_lines::values::Value;
 use test_lines::values::pattern32;
 

@@ -4,8 +4,8 @@ ghost use lib.ListN.{length};
 use crate::Outcome;
 use crate::given::read_open;
 use crate::given::read_session;
-use session::Answer;
-use session::Session;
+use session_calls::Answer;
+use session_calls::Session;
 use test_call_words::draws::fill;
 use test_call_words::sums::plus;
 use test_call_words::sums::plus_floats;
@@ -133,7 +133,7 @@ pub fn place(line: &[u8], w: Walk, s: Session, sum: u64) -> Called {
     if !told.good {
         return no_call(s, sum);
     }
-    let a = session::place(s, source.value as usize, az.value, el.value);
+    let a = session_calls::place(s, source.value as usize, az.value, el.value);
     answered(a, told.number, sum)
 }
 
@@ -144,7 +144,7 @@ pub fn take_back(line: &[u8], w: Walk, s: Session, sum: u64) -> Called {
     if !told.good {
         return no_call(s, sum);
     }
-    let a = session::take_back(s, source.value as usize);
+    let a = session_calls::take_back(s, source.value as usize);
     answered(a, told.number, sum)
 }
 
@@ -155,7 +155,7 @@ pub fn settle(line: &[u8], w: Walk, s: Session, sum: u64) -> Called {
     if !told.good {
         return no_call(s, sum);
     }
-    let a = session::settle(s, source.value as usize);
+    let a = session_calls::settle(s, source.value as usize);
     answered(a, told.number, sum)
 }
 
@@ -195,7 +195,7 @@ fn read_block(line: &[u8], w: Walk) -> Block {
 fn rendered(b: Block, samples: &mut [f32], outputs: &mut [f32], s: Session, sum: u64) -> Called {
     let last = fill(samples, b.seed, b.seed);
     fill(outputs, last, b.seed);
-    let a = render::render(s, b.length, &*samples, outputs);
+    let a = session_render::render(s, b.length, &*samples, outputs);
     let c = answered(a, b.told, sum);
     let outcome = c.outcome;
     let session = c.session;

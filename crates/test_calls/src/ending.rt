@@ -2,10 +2,10 @@
 ghost use Prim.Native.Nat.{_≤_};
 use crate::Outcome;
 use crate::given::read_counts;
-use mix::GAINS;
-use session::Session;
-use standing::Counts;
-use standing::PLACES;
+use mix_block::GAINS;
+use session_calls::Session;
+use session_standing::Counts;
+use session_standing::PLACES;
 use test_call_words::places::first_other;
 use test_call_words::places::read_places;
 use test_call_words::sums::record_sum;

@@ -1,10 +1,10 @@
 // What a list of calls begins with: the arguments of `open`, or a session made by hand.
 ghost use Prim.Native.Nat.{_≤_};
-use mix::GAINS;
-use panner::VbapPanner;
-use session::Session;
+use layout_record::VbapPanner;
+use mix_block::GAINS;
+use session_calls::Session;
 use session_open::Opened;
-use standing::PLACES;
+use session_standing::PLACES;
 use test_call_words::places::read_places;
 use test_call_words::places::to_floats;
 use test_record_words::record::Record;

@@ -6,7 +6,7 @@ mod given;
 mod report;
 
 use call::Called;
-use session::Session;
+use session_calls::Session;
 use test_call_words::sums;
 use test_lines::Cursor;
 use test_lines::Word;

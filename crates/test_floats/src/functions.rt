@@ -63,17 +63,17 @@ fn truth(is: bool) -> Value {
 
 fn of_single(place: usize, x: f32) -> Answer {
     match place {
-        0 => one(pattern32(root::sqrt32(x))),
-        1 => one(pattern32(ieee::clamp(x))),
-        2 => one(pattern32(ieee::abs32(x))),
-        3 => one(pattern32(ieee::powi4(x))),
-        4 => one(pattern32(trig::sin32(x))),
-        5 => one(pattern32(trig::cos32(x))),
-        6 => one(truth(ieee::is_finite32(x))),
-        7 => one(truth(ieee::sign_bit32(x))),
-        8 => one(pattern64(widths::widen(x))),
+        0 => one(pattern32(float_root::sqrt32(x))),
+        1 => one(pattern32(float_order::clamp(x))),
+        2 => one(pattern32(float_order::abs32(x))),
+        3 => one(pattern32(float_order::powi4(x))),
+        4 => one(pattern32(float_sine::sin32(x))),
+        5 => one(pattern32(float_sine::cos32(x))),
+        6 => one(truth(float_order::is_finite32(x))),
+        7 => one(truth(float_order::sign_bit32(x))),
+        8 => one(pattern64(float_widths::widen(x))),
         _ => {
-            let r = trig::sin_cos32(x);
+            let r = float_sine::sin_cos32(x);
             Answer {
                 first: pattern32(r.sin),
                 second: pattern32(r.cos),
@@ -84,24 +84,24 @@ fn of_single(place: usize, x: f32) -> Answer {
 
 fn of_singles(place: usize, x: f32, y: f32) -> Answer {
     match place {
-        10 => one(pattern32(ieee::max32(x, y))),
-        11 => one(pattern32(ieee::min32(x, y))),
-        _ => one(pattern32(ieee::rem_euclid32(x, y))),
+        10 => one(pattern32(float_order::max32(x, y))),
+        11 => one(pattern32(float_order::min32(x, y))),
+        _ => one(pattern32(float_order::rem_euclid32(x, y))),
     }
 }
 
 fn of_double(place: usize, x: f64) -> Answer {
     match place {
-        13 => one(pattern64(root::sqrt64(x))),
-        14 => one(pattern64(ieee::abs64(x))),
-        15 => one(pattern64(trig::sin(x))),
-        16 => one(pattern64(trig::cos(x))),
-        17 => one(pattern64(arctangent::atan(x))),
-        18 => one(truth(ieee::is_finite64(x))),
-        19 => one(truth(ieee::sign_bit64(x))),
-        20 => one(pattern32(widths::narrow(x))),
+        13 => one(pattern64(float_root::sqrt64(x))),
+        14 => one(pattern64(float_order::abs64(x))),
+        15 => one(pattern64(float_sine::sin(x))),
+        16 => one(pattern64(float_sine::cos(x))),
+        17 => one(pattern64(float_arctangent::atan(x))),
+        18 => one(truth(float_order::is_finite64(x))),
+        19 => one(truth(float_order::sign_bit64(x))),
+        20 => one(pattern32(float_widths::narrow(x))),
         _ => {
-            let r = trig::sin_cos(x);
+            let r = float_sine::sin_cos(x);
             Answer {
                 first: pattern64(r.sin),
                 second: pattern64(r.cos),
@@ -112,9 +112,9 @@ fn of_double(place: usize, x: f64) -> Answer {
 
 fn of_doubles(place: usize, x: f64, y: f64) -> Answer {
     match place {
-        22 => one(pattern64(ieee::max64(x, y))),
-        23 => one(pattern64(ieee::rem_euclid64(x, y))),
-        _ => one(pattern64(arctangent::atan2(x, y))),
+        22 => one(pattern64(float_order::max64(x, y))),
+        23 => one(pattern64(float_order::rem_euclid64(x, y))),
+        _ => one(pattern64(float_arctangent::atan2(x, y))),
     }
 }
 
@@ -125,7 +125,7 @@ pub fn compute(place: usize, a: u64, b: u64) -> Answer {
         10..=12 => of_singles(place, single(a), single(b)),
         13..=21 => of_double(place, double(a)),
         22..=24 => of_doubles(place, double(a), double(b)),
-        25 => one(pattern32(widths::f32_from_u64(a))),
-        _ => one(pattern64(widths::f64_from_u64(a))),
+        25 => one(pattern32(float_widths::f32_from_u64(a))),
+        _ => one(pattern64(float_widths::f64_from_u64(a))),
     }
 }

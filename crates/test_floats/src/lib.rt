@@ -1,4 +1,4 @@
-// Replays a list of cases from standard input: computes each with the functions of ieee and trig, and compares bit by bit.
+// Replays a list of cases from standard input: computes each with the functions of the float_ crates, and compares bit by bit.
 // It writes the first five lines that differ or are malformed, how many cases there were of each function, and how many differed.
 mod functions;
 mod report;

@@ -1,4 +1,4 @@
-// What `layout::new` answers, field by field: a number for each, and its name for people.
+// What `layout_new::new` answers, field by field: a number for each, and its name for people.
 // Origin of the numbers: counted from 0, in the order of a line (docs/CASES.md); they only tell the fields apart.
 use io::write_all;
 use libc::STDOUT_FILENO;

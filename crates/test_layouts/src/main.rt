@@ -1,4 +1,4 @@
-// Replays a list of layouts from standard input: makes each with `layout::new`, and compares every field bit by bit.
+// Replays a list of layouts from standard input: makes each with `layout_new::new`, and compares every field bit by bit.
 // It writes the first five lines that differ or are malformed, how many cases there were, and how many differed.
 mod arguments;
 mod fields;
@@ -9,7 +9,7 @@ mod walk;
 ghost use Prim.Native.Nat.{_≤_};
 use fields::MALFORMED;
 use fields::NONE;
-use layout::NewPanner;
+use layout_new::NewPanner;
 use test_lines::Cursor;
 use test_lines::Word;
 use test_lines::is_comment;
@@ -37,13 +37,13 @@ struct State {
     goes_on: bool,
 }
 
-// What `layout::new` answers on the first n numbers and the first m entries.
+// What `layout_new::new` answers on the first n numbers and the first m entries.
 fn made(positions: &[f32; 256], n: usize, lfe: &[usize; 64], m: usize) -> NewPanner
     requires { ⌜ (n ≤ 256) × (m ≤ 64) ⌝ }
 {
     let numbers = &positions[..];
     let entries = &lfe[..];
-    layout::new(&numbers[..n], &entries[..m])
+    layout_new::new(&numbers[..n], &entries[..m])
 }
 
 // The first field of a case that differs, from its arguments on.

@@ -26,11 +26,11 @@ use crate::walk::byte;
 use crate::walk::count;
 use crate::walk::float;
 use crate::walk::whole;
-use layout::NewPanner;
-use panner::Kind;
-use panner::VbapPanner;
-use planar::Law;
-use planar::PlanarPair;
+use layout_new::NewPanner;
+use layout_planar::Law;
+use layout_planar::PlanarPair;
+use layout_record::Kind;
+use layout_record::VbapPanner;
 ghost use Prim.Native.Nat.{_<_};
 
 // ---- planar

@@ -40,7 +40,7 @@ struct State {
 fn ramped_part(dst: &mut [f32], n: usize, src: &[f32], g0: f32, g1: f32)
     requires { ⌜ n ≤ length (now dst) ⌝ }
 {
-    ramp::ramp_add(&mut dst[..n], src, g0, g1);
+    mix_ramp::ramp_add(&mut dst[..n], src, g0, g1);
 }
 
 // Adds the first m of src to the first n of dst.
@@ -83,7 +83,7 @@ fn check_mix(line: &[u8], c: Cursor) -> Outcome {
     if !(from.good & to.good & dot.good & t.good) {
         return Outcome::Malformed;
     }
-    let got = mixed_gain::normalized_lerp_gain(from.value, to.value, dot.value, t.value);
+    let got = mix_gain::normalized_lerp_gain(from.value, to.value, dot.value, t.value);
     results::float(line, next, got)
 }
 

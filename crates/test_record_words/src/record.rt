@@ -5,10 +5,10 @@ use crate::words::Walk;
 use crate::words::read_byte;
 use crate::words::read_float;
 use crate::words::size;
-use panner::Kind;
-use panner::VbapPanner;
-use planar::Law;
-use planar::PlanarPair;
+use layout_planar::Law;
+use layout_planar::PlanarPair;
+use layout_record::Kind;
+use layout_record::VbapPanner;
 
 pub struct Record {
     pub panner: VbapPanner,

@@ -1,6 +1,6 @@
-// A layout that `layout::new` makes of the positions and the LFE entries of a line.
+// A layout that `layout_new::new` makes of the positions and the LFE entries of a line.
 ghost use Prim.Native.Nat.{_≤_};
-use layout::NewPanner;
+use layout_new::NewPanner;
 use test_record_words::speakers::entries;
 use test_record_words::speakers::positions;
 use test_record_words::words::Walk;
@@ -11,16 +11,16 @@ pub struct Made {
     pub walk: Walk,
 }
 
-// What `layout::new` answers on the first n numbers and the first m entries.
+// What `layout_new::new` answers on the first n numbers and the first m entries.
 fn new_of(positions: &[f32; 256], n: usize, lfe: &[usize; 64], m: usize) -> NewPanner
     requires { ⌜ (n ≤ 256) × (m ≤ 64) ⌝ }
 {
     let numbers = &positions[..];
     let entries = &lfe[..];
-    layout::new(&numbers[..n], &entries[..m])
+    layout_new::new(&numbers[..n], &entries[..m])
 }
 
-// What `layout::new` answers on no speakers.
+// What `layout_new::new` answers on no speakers.
 pub fn none() -> NewPanner {
     let numbers = [0.0f32; 256];
     let lfe = [0usize; 64];

@@ -4,7 +4,7 @@ mod made;
 mod report;
 mod row;
 
-use panner::VbapPanner;
+use layout_record::VbapPanner;
 use test_lines::Cursor;
 use test_lines::Word;
 use test_lines::is_comment;

@@ -2,7 +2,7 @@
 ghost use Prim.Native.Nat.{_≤_};
 ghost use lib.ListN.{length};
 use crate::Outcome;
-use panner::VbapPanner;
+use layout_record::VbapPanner;
 use test_lines::values::Form;
 use test_lines::values::Value;
 use test_lines::values::pattern32;
@@ -47,7 +47,7 @@ fn fill(out: &mut [f32; 43]) {
 fn row_part(p: VbapPanner, az: f32, el: f32, out: &mut [f32], n: usize) -> u32
     requires { ⌜ n ≤ length (now out) ⌝ }
 {
-    gains::gains(p, az, el, &mut out[..n])
+    row_gains::gains(p, az, el, &mut out[..n])
 }
 
 // `gains` on the first n places.
@@ -196,7 +196,7 @@ pub fn check_outputs(line: &[u8], w: Walk, p: VbapPanner) -> Outcome {
     if !ended.good {
         return Outcome::Malformed;
     }
-    let got = panner::num_outputs(p);
+    let got = layout_record::num_outputs(p);
     if got.number != number.value as u32 {
         return Outcome::Number(got.number);
     }

@@ -3,9 +3,9 @@ use mathlib.Core.Path.{_≡_}
 use mathlib.Core.Bool.{true, false, _||_, not}
 use mathlib.Core.List.{[], _∷_}
 use lib.Ieee.{le}
-use Rattle.ieee.specs.Values.{+0, isFinite}
+use Rattle.float_order.specs.Values.{+0, isFinite}
 use Rattle.vector.specs.Vector.{Vector, lengthOf, overOf, shortest, unitOf}
-use Rattle.vector.specs.Unit.{unitFor, unitIn}
+use Rattle.vector.specs.Inner.Unit.{unitFor, unitIn}
 use Rattle.vector.specs.declared.Direction.{Direction}
 
 module _ (p : Vector) where

@@ -2,5 +2,5 @@ pub mod Limits
 pub mod Operations
 pub mod Vector
 pub mod Speakers
-pub mod Unit
+pub mod Inner
 pub mod Pulkki

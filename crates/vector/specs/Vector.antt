@@ -7,9 +7,9 @@ use mathlib.Core.Option.{Option, none, some}
 use lib.ListN.{getD}
 use lib.Ieee.{Float, nan, Format, binary32, binary64, add, sub, neg, mul, div, le, ofBits}
 use Rattle.lists.specs.Lists.{range, part}
-use Rattle.ieee.specs.Values.{isFinite}
-use Rattle.root.specs.Root.{sqrtOf}
-use Rattle.trig.specs.Sine.{sin32Of, cos32Of}
+use Rattle.float_order.specs.Values.{isFinite}
+use Rattle.float_root.specs.Root.{sqrtOf}
+use Rattle.float_sine.specs.Sine.{sin32Of, cos32Of}
 use Rattle.vector.specs.Operations.{Operations, Three, minorBy, dotBy, crossBy, determinantBy, rowsBy}
 
 abbrev pub Vector : Type 0

@@ -4,7 +4,7 @@ ghost use Prim.Native.Nat.{_<_};
 ghost use lib.ListN.{length};
 ghost use Rattle.lists.specs.Lists.{part};
 ghost use Rattle.vector.specs.Vector.{dotOf, crossOf, lessOf, overOf, negatedOf, lengthOf, dirVecOf};
-ghost use Rattle.vector.specs.Unit.{unitIn};
+ghost use Rattle.vector.specs.Inner.Unit.{unitIn};
 
 // A position as a direction, where it has one; +0 throughout where not.
 pub struct Direction {
@@ -24,7 +24,7 @@ pub fn unit(p: [f32; 3]) -> Direction
 {
     let v = widened(p);
     let l = length64(v);
-    if (l <= SHORTEST) | !ieee::is_finite64(l) {
+    if (l <= SHORTEST) | !float_order::is_finite64(l) {
         return Direction {
             accepted: false,
             dir: [0.0; 3],
@@ -42,9 +42,9 @@ fn widened(p: [f32; 3]) -> [f64; 3]
     ensures { λ r. ⌜ r ≡ p ⌝ }
 {
     [
-        widths::widen(p[0]),
-        widths::widen(p[1]),
-        widths::widen(p[2]),
+        float_widths::widen(p[0]),
+        float_widths::widen(p[1]),
+        float_widths::widen(p[2]),
     ]
 }
 
@@ -89,7 +89,7 @@ pub fn negated(a: [f64; 3]) -> [f64; 3]
 pub fn length64(a: [f64; 3]) -> f64
     ensures { λ r. ⌜ r ≡ lengthOf a ⌝ }
 {
-    root::sqrt64(dot(a, a))
+    float_root::sqrt64(dot(a, a))
 }
 
 // Point i of 54, three numbers a point. Origin of 54: document 01, 40 positions and 14 imaginary points; 162 = 54 * 3.
@@ -105,7 +105,7 @@ pub fn point(pts: &[f64; 162], i: usize) -> [f64; 3]
 pub fn dir_vec(az: f32, el: f32) -> [f32; 3]
     ensures { λ r. ⌜ r ≡ dirVecOf az el ⌝ }
 {
-    let a = trig::sin_cos32(az);
-    let e = trig::sin_cos32(el);
+    let a = float_sine::sin_cos32(az);
+    let e = float_sine::sin_cos32(el);
     [a.sin * e.cos, e.sin, -a.cos * e.cos]
 }

@@ -6,7 +6,7 @@ use native.Mathlib.Omega.{arith}
 use borrow.Author.Needs.{needs}
 use lib.Pow.{pow-mono}
 use lib.Ieee.Nearest.{closest}
-use Rattle.ieee.proofs.Laws.{none-left}
+use Rattle.float_order.proofs.Laws.{none-left}
 use Rattle.demo_decimal.proofs.Steps.{below-half, at-half, above-half}
 use Rattle.demo_decimal.proofs.closest.Statement.{statement}
 use Rattle.demo_decimal.proofs.closest.Tie as tie

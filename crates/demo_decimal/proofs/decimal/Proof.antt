@@ -8,7 +8,7 @@ use lib.Dec.{T}
 use lib.Ieee.{binary32, fits, isNan, toBits}
 use lib.Ieee.Compare.{differs-from-itself}
 use lib.Ieee.Nearest.{closest}
-use Rattle.ieee.proofs.Read.{nan-not}
+use Rattle.float_order.proofs.Read.{nan-not}
 use Rattle.demo_decimal.specs.declared.Size.the-variants.{Steps}
 use Rattle.demo_decimal.proofs.Steps.{product-fits}
 use Rattle.demo_decimal.proofs.Fields.{nan-is, large-is, low-is, mid-is}

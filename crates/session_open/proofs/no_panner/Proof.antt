@@ -1,6 +1,6 @@
 -- `session_open::no_panner` meets its contract: no positions make no active speaker. Assumes nothing.
 use mathlib.Core.Path.{ap, _∙_}
-use Rattle.layout.specs.declared.NewPanner.{NewPanner}
+use Rattle.layout_new.specs.declared.NewPanner.{NewPanner}
 use Rattle.session_open.proofs.Opening.{no-positions}
 use borrow.Author.Needs.{needs}
 use Rattle.session_open.proofs.no_panner.Statement.{statement}

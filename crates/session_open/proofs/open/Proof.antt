@@ -1,7 +1,7 @@
 -- `session_open::open` meets its contract: 1 and 2 of the layout first, then 3, then 4. Assumes nothing.
 use mathlib.Core.Path.{ap, _∙_}
 use native.Mathlib.Omega.{arith}
-use Rattle.session.specs.declared.Session.{Session}
+use Rattle.session_calls.specs.declared.Session.{Session}
 use Rattle.session_open.proofs.Opening.{few-sources, open-early, open-sources, open-late, open-done}
 use borrow.Author.Needs.{needs}
 use Rattle.session_open.proofs.open.Statement.{statement}

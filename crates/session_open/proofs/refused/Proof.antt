@@ -1,8 +1,8 @@
 -- `session_open::refused` meets its contract: a fresh session of no sources over the record of no positions. Assumes nothing.
 use mathlib.Core.Path.{ap, _∙_}
-use Rattle.panner.specs.declared.VbapPanner.{VbapPanner}
+use Rattle.layout_record.specs.declared.VbapPanner.{VbapPanner}
 use Rattle.session_open.specs.Open.{fresh, noSession, refusedBy}
-use Rattle.session.specs.declared.Session.{Session}
+use Rattle.session_calls.specs.declared.Session.{Session}
 use borrow.Author.Needs.{needs}
 use Rattle.session_open.proofs.refused.Statement.{statement}
 use Rattle.session_open.proofs.refused.Tie as tie

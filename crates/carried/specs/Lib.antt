@@ -1,5 +1,0 @@
-pub mod Pasted
-pub mod Records
-pub mod Rows
-pub mod Sessions
-pub mod Meaning

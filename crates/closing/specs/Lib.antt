@@ -1,4 +1,0 @@
-pub mod Closing
-pub mod Flat
-pub mod Meaning
-pub mod Examples

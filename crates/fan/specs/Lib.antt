@@ -1,3 +1,0 @@
-pub mod Fan
-pub mod Steps
-pub mod Meaning

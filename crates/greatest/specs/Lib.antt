@@ -1,3 +1,0 @@
-pub mod Greatest
-pub mod Steps
-pub mod Meaning

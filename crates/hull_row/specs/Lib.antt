@@ -1,4 +1,0 @@
-pub mod HullRow
-pub mod Steps
-pub mod Meaning
-pub mod Fields

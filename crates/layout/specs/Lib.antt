@@ -1,4 +1,0 @@
-pub mod Layout
-pub mod Arrays
-pub mod Answers
-pub mod Meaning

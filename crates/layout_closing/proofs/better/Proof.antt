@@ -1,0 +1,20 @@
+-- Each way is a case of `better`, told by the struct that holds the best so far. Assumes nothing.
+use Rattle.layout_closing.proofs.Candidates.{better-passed, better-keeps, better-wins}
+use borrow.Author.Needs.{needs}
+use Rattle.layout_closing.proofs.better.Statement.{statement}
+use Rattle.layout_closing.proofs.better.Tie as tie
+
+greatest-requires : tie.Need-greatest-requires
+greatest-requires c κs = search needs
+
+returns : tie.Need-returns
+returns c b e = better-passed _ _ (c .before .greatest .ensures) b e (c .if1 .taken)
+
+returns-2 : tie.Need-returns-2
+returns-2 c b e = better-keeps _ _ (c .before .before .before .before .greatest .ensures) b e (c .before .before .before .if1 .left) (c .if2 .taken)
+
+returns-3 : tie.Need-returns-3
+returns-3 c b e = better-wins _ _ (c .before .before .before .before .greatest .ensures) b e (c .before .before .before .if1 .left) (c .if2 .left)
+
+pub better-spec : {M : Type 1} → statement M
+better-spec = tie.close (tie.spec greatest-requires returns returns-2 returns-3)

@@ -1,0 +1,4 @@
+pub mod Closing
+pub mod Inner
+pub mod Meaning
+pub mod Examples

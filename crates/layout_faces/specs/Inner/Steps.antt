@@ -1,0 +1,51 @@
+-- What the functions of src/lib.rt answer on the way from the points' flat array to the definitions of `Faces`. Assumes nothing.
+use Prim.Native.Nat.{ℕ, _+_, _*_}
+use mathlib.Core.Bool.{Bool, _&&_, _||_, not, cond}
+use mathlib.Core.List.{List, [], _∷_}
+use lib.Dec.{eqb}
+use lib.ListN.{length, getD}
+use lib.Ieee.{Float, nan, binary64, sub, neg, lt}
+use Rattle.lists.specs.Lists.{part}
+use Rattle.vector.specs.Vector.{Vector, Points, x, y, z, dotOf, negatedOf, lengthOf}
+use Rattle.layout_faces.specs.Faces.{Plane, leastNormal, eps, leastDistance, point, others, rawNormal, planeThrough, allBelow, allAbove}
+use Rattle.layout_faces.specs.declared.Sides.{Sides}
+use Rattle.layout_faces.specs.declared.Face.{Face}
+use Rattle.layout_faces.specs.declared.Face.the-variants.{Skip, Open, Outward}
+
+abbrev pub isOther : ℕ → ℕ → ℕ → ℕ → Bool
+isOther i j k p = not (eqb p i || eqb p j || eqb p k)
+
+-- point p as it is read from the flat array
+unfoldable pub pointIn : List Float → ℕ → Vector
+pointIn flat p = getD flat (p * 3) nan ∷ getD flat (p * 3 + 1) nan ∷ getD flat (p * 3 + 2) nan ∷ []
+
+unfoldable pub heightIn : List Float → Vector → Float → ℕ → Float
+heightIn flat nrm d p = sub binary64 (dotOf nrm (part 3 flat p)) d
+
+-- what point p leaves of the sides without a point
+unfoldable pub besideOf : List Float → ℕ → ℕ → ℕ → Vector → Float → ℕ → Sides → Sides
+besideOf flat i j k nrm d p s =
+    let v = heightIn flat nrm d p in
+    cond (isOther i j k p) (record { below = not (lt eps v) && s .below; above = not (lt v (neg eps)) && s .above }) s
+
+abbrev pub planeOf : Vector → Float → Plane
+planeOf u l = record { nrm = u; d = l }
+
+unfoldable pub sidesOf : Points → Vector → Float → List ℕ → Sides
+sidesOf pts nrm d ps = record { below = allBelow pts (planeOf nrm d) ps; above = allAbove pts (planeOf nrm d) ps }
+
+-- a face by its outward normal and its distance
+unfoldable pub facing : Vector → Float → Face
+facing nrm d = cond (lt d leastDistance) Open (Outward (x nrm) (y nrm) (z nrm) d)
+
+-- a face by the sides of its plane without a point
+unfoldable pub turnedBy : Sides → Vector → Float → Face
+turnedBy s nrm d = cond (s .below) (facing nrm d) (cond (s .above) (facing (negatedOf nrm) (neg d)) Skip)
+
+unfoldable pub faceOf : Points → ℕ → ℕ → ℕ → Face
+faceOf pts i j k =
+    let a = point pts i in
+    let b = point pts j in
+    let c = point pts k in
+    let f = planeThrough a b c in
+    cond (lt (lengthOf (rawNormal a b c)) leastNormal) Skip (turnedBy (sidesOf pts (f .nrm) (f .d) (others (length pts) i j k)) (f .nrm) (f .d))

@@ -1,0 +1,3 @@
+pub mod Fan
+pub mod Inner
+pub mod Meaning

@@ -1,0 +1,4 @@
+pub mod Triplets
+pub mod Inner
+pub mod Meaning
+pub mod Divided

@@ -1,0 +1,3 @@
+pub mod Planar
+pub mod Inner
+pub mod Constants

@@ -1,0 +1,3 @@
+pub mod Ramp
+pub mod Inner
+pub mod Examples

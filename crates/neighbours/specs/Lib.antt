@@ -1,4 +1,0 @@
-pub mod Neighbours
-pub mod Flat
-pub mod Search
-pub mod Meaning

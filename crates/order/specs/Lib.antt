@@ -1,3 +1,0 @@
-pub mod Order
-pub mod Front
-pub mod Meaning

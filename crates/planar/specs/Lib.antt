@@ -1,3 +1,0 @@
-pub mod Planar
-pub mod Arrays
-pub mod Constants

@@ -1,3 +1,0 @@
-pub mod Ramp
-pub mod Turns
-pub mod Examples

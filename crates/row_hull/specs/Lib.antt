@@ -1,0 +1,3 @@
+pub mod HullRow
+pub mod Inner
+pub mod Meaning
