@@ -296,7 +296,7 @@ fn line(record: &Panner) -> String {
 }
 
 /// The directions and lengths that a record is asked at.
-fn asked(r: &mut Random, record: &Panner, numbers: &[f32]) -> Vec<Call> {
+pub fn asked(r: &mut Random, record: &Panner, numbers: &[f32]) -> Vec<Call> {
     if counts_over(record) {
         let length = |r: &mut Random| r.below(44) as usize;
         return (0..ROWS)

@@ -2,6 +2,7 @@
 //! so that a run can be repeated. A difference prints its input and ends the run with status 1.
 
 mod calls;
+mod flushed;
 mod hex;
 mod layouts;
 mod numbers;
@@ -118,9 +119,16 @@ fn fresh_seed() -> u64 {
     now.map_or(1, |d| Random::new(d.as_nanos() as u64).bits() >> 16)
 }
 
-/// Seed and limit of the words of the command line.
-fn options(words: &[String]) -> Option<(u64, Limit)> {
-    let (mut seed, mut limit) = (fresh_seed(), Limit::Seconds(5.0));
+/// What to do, by the words of the command line: the seed, how much to compare, and, where asked
+/// for, how many layouts are looked at with subnormals flushed.
+struct Options {
+    seed: u64,
+    limit: Limit,
+    flushed: Option<u64>,
+}
+
+fn options(words: &[String]) -> Option<Options> {
+    let (mut seed, mut limit, mut flushed) = (fresh_seed(), Limit::Seconds(5.0), None);
     let mut rest = words.iter();
     while let Some(word) = rest.next() {
         match word.as_str() {
@@ -128,18 +136,36 @@ fn options(words: &[String]) -> Option<(u64, Limit)> {
             "--seconds" => limit = Limit::Seconds(rest.next()?.parse().ok()?),
             "--count" => limit = Limit::Count(rest.next()?.parse().ok()?),
             "--scale" => limit = Limit::Scale,
+            "--flushed" => flushed = Some(rest.next()?.parse().ok()?),
             _ => return None,
         }
     }
-    Some((seed, limit))
+    Some(Options {
+        seed,
+        limit,
+        flushed,
+    })
 }
 
 fn main() {
     let words: Vec<String> = std::env::args().skip(1).collect();
-    let Some((seed, limit)) = options(&words) else {
-        eprintln!("driver [--seed HEX] [--seconds S | --count N | --scale]");
+    let Some(Options {
+        seed,
+        limit,
+        flushed,
+    }) = options(&words)
+    else {
+        eprintln!("driver [--seed HEX] [--seconds S | --count N | --scale | --flushed N]");
         std::process::exit(2);
     };
+    if let Some(count) = flushed {
+        let t = flushed::told(&mut Random::new(seed), count);
+        println!(
+            "seed {seed:x}; with subnormals flushed, of {} layouts {} have another record and {} a row of other bits; the greatest difference of a gain is {:e}",
+            t.layouts, t.records, t.rows, t.most
+        );
+        return;
+    }
     let depths = stack::depths();
     let told: Vec<String> = stack::CALLS
         .iter()
