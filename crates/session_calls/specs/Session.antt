@@ -8,6 +8,7 @@ use lib.Seq.{sets}
 use lib.Ieee.{Float, nan}
 use Rattle.lists.specs.Lists.{range, any, part}
 use Rattle.float_order.specs.Values.{+0}
+use Rattle.layout_record.specs.declared.VbapPanner.{VbapPanner}
 use Rattle.layout_record.specs.Panner.{layoutIn}
 use Rattle.layout_record.specs.Malformed.{malformedOf}
 use Rattle.row_gains.specs.Gains.{finiteOr0, rowOf}
@@ -83,17 +84,19 @@ settled s i =
     let last = take 2 (drop (at i (n - 1)) (s .standing)) in
     cond (eqb n 0) s (restood s i 1 0 (last ++ replicate (depth * 2 - 2) +0))
 
--- the start row of source i; its target: the row of the last standing direction, all +0 where none stands
+-- the start row of source i
 unfoldable pub startRow : Session → ℕ → List Float
 startRow s i = part rowPlaces (s .starts) i
 
+-- its target: the row of the last standing direction, all +0 where none stands; of n directions the last is at az and el
+unfoldable pub targetRow : VbapPanner → ℕ → Float → Float → List Float
+targetRow v n az el = cond (eqb n 0) (replicate (v .«num_outputs») +0) (rowOf (layoutIn v) (v .«num_outputs») az el)
+
 unfoldable pub target : Session → ℕ → List Float
 target s i =
-    let outputs = s .panner .«num_outputs» in
     let n = standingCount s i in
     let last = at i (n - 1) in
-    let row = rowOf (layoutIn (s .panner)) outputs (getD (s .standing) last nan) (getD (s .standing) (last + 1) nan) in
-    cond (eqb n 0) (replicate outputs +0) row
+    targetRow (s .panner) n (getD (s .standing) last nan) (getD (s .standing) (last + 1) nan)
 
 -- the start row of every source becomes its target, the places from outputs on unchanged. Of a gain that is a NaN, in a hand-made layout, sign and payload are the program's; every choice is a quiet NaN
 unfoldable pub newStart : Session → ℕ → List Float

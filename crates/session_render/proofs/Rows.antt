@@ -23,9 +23,8 @@ use Rattle.layout_record.specs.Panner.{layoutIn}
 use Rattle.layout_record.specs.Malformed.{malformedOf}
 use Rattle.row_gains.specs.Gains.{rowOf, gainsOf, gainsBuffer}
 use Rattle.mix_block.specs.Inner.Turns.{mostSources, rowPlaces}
-use Rattle.session_calls.specs.Session.{standingCount, at, startRow, target, newStart}
+use Rattle.session_calls.specs.Session.{standingCount, at, startRow, targetRow, target, newStart}
 use Rattle.session_calls.specs.declared.Session.{Session}
-use Rattle.session_render.specs.Inner.Target.{targetRow}
 
 -- ---- the target of a source
 
@@ -53,7 +52,7 @@ row-some v n az el h = rw (ne-eqb n 0 h)
 module _ (s : Session) (i : ℕ) where
   pub target-at : (k : ℕ) → k ≡ standingCount s i - 1
       → targetRow (s .panner) (standingCount s i) (getD (s .standing) (at i k) nan) (getD (s .standing) (at i k + 1) nan) ≡ target s i
-  unfolding targetRow target
+  unfolding target
   target-at k e = ap (λ (k : ℕ). targetRow (s .panner) (standingCount s i) (getD (s .standing) (at i k) nan) (getD (s .standing) (at i k + 1) nan)) e
 
   start-new : i < s .sources → newStart s i ≡ target s i ++ drop (s .panner .«num_outputs») (startRow s i)

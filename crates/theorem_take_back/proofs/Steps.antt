@@ -25,7 +25,7 @@ use Rattle.session_history.specs.History.{Direction, Past, quiet, beginning, de
 use Rattle.session_calls.specs.declared.Session.{Session}
 use Rattle.session_calls.proofs.Refusals.{formed-is}
 use Rattle.session_open.specs.Open.{fresh}
-use Rattle.session_calls.specs.Session.{malformedSession, standingCount, onSource, numberOf, restood, placed, takenBack, settled, target, newStart, rendered, accepted, after}
+use Rattle.session_calls.specs.Session.{malformedSession, standingCount, onSource, numberOf, restood, placed, takenBack, settled, targetRow, target, newStart, rendered, accepted, after}
 use Rattle.theorem_rows.proofs.Silent.{row-length}
 use Rattle.theorem_take_back.specs.Laid.{placesOf, startOf, laidAt}
 use Rattle.theorem_take_back.proofs.Fields.{SameFields, same-session, starts-same}
@@ -132,7 +132,7 @@ module _ (v : VbapPanner) (l : Layout) (n : ℕ) (s : Setting v l n) where
 
       -- the row that a render gives a source, as the session and as the history have it
       target-at : (e : Bool) → eqb (count p) 0 ≡ e → target t i ≡ lastRow l (p .standing)
-      unfolding target laidAt
+      unfolding target targetRow laidAt
       target-at true e = rw (here, e, s .outputs) (sym (lastRow-none l (p .standing) (eqb-true _ _ e)))
       target-at false e =
           let ds = p .standing in
