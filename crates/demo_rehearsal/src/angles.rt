@@ -20,7 +20,7 @@ pub fn azimuth(x: f32, z: f32) -> f32 {
     if (x == 0.0) & (z == 0.0) {
         return 0.0;
     }
-    degrees(float_arctangent::atan2(float_widths::widen(x), -widths::widen(z)))
+    degrees(float_arctangent::atan2(float_widths::widen(x), -float_widths::widen(z)))
 }
 
 // Elevation of a direction, upwards from the horizon.

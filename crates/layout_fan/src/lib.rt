@@ -28,7 +28,8 @@ fn is_coplanar(
     requires { ⌜ p < 54 ⌝ }
     ensures { λ r. ⌜ r ≡ isCoplanar (now (pts .entry)) i j k nrm d p ⌝ }
 {
-    layout_faces::is_other(i, j, k, p) & (layout_faces::height(pts, nrm, d, p) >= -faces::EPS)
+    layout_faces::is_other(i, j, k, p)
+        & (layout_faces::height(pts, nrm, d, p) >= -layout_faces::EPS)
 }
 
 // Those of the first n points that are coplanar with the triple, in a blank array; how many there are.
