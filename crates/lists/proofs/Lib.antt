@@ -7,3 +7,4 @@ pub mod Parts
 pub mod Search
 pub mod Ends
 pub mod Once
+pub mod Rows

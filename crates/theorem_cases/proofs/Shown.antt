@@ -37,7 +37,7 @@ use Rattle.session_history.specs.History.{depth}
 use Rattle.session_open.specs.Open.{fresh}
 use Rattle.session_calls.specs.Session.{malformedBy, malformedSession, numberOf, afterAll}
 use Rattle.session_calls.proofs.Refusals.{on-source}
-use Rattle.theorem_take_back.proofs.Rows.{getD-fill}
+use Rattle.lists.proofs.Rows.{getD-fill}
 use Rattle.theorem_take_back.proofs.PlacedBack.{placed-back}
 use Rattle.theorem_cases.specs.Table.{F, Table}
 

@@ -19,7 +19,7 @@ use Rattle.session_history.specs.Calls.{place, takeBack, render}
 use Rattle.session_history.specs.History.{Direction, Past, beginning, depth, stand, refusal, relisted, lastRow, rerowed, made, step, history, past}
 use Rattle.theorem_take_back.specs.Demand3.{Given, historyOf, pastOf}
 use Rattle.theorem_take_back.specs.Instances.{−0, OneRow, ZerosApart}
-use Rattle.theorem_take_back.proofs.Rows.{getD-fill}
+use Rattle.lists.proofs.Rows.{getD-fill}
 use Rattle.theorem_take_back.proofs.Theorem.{demand3, same-given}
 
 abbrev toward : Float → Float → Direction

@@ -19,7 +19,7 @@ use Rattle.session_calls.proofs.Refusals.{Passed, place-passed, take-own}
 use Rattle.session_calls.proofs.Meaning.{calls-keep-formed}
 use Rattle.theorem_take_back.specs.Instances.{PlacedBack}
 use Rattle.theorem_take_back.proofs.Fields.{SameRest, stood-same}
-use Rattle.theorem_take_back.proofs.Rows.{sets-back}
+use Rattle.lists.proofs.Rows.{sets-back}
 
 module _ (s : Session) (i : ℕ) (az el : Float) (z : numberOf s (place i az el) ≡ 0) (h : i < length (s .counts)) where
   abbrev n : ℕ

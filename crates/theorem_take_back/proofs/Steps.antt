@@ -29,7 +29,7 @@ use Rattle.session_calls.specs.Session.{malformedSession, standingCount, onSour
 use Rattle.theorem_rows.proofs.Silent.{row-length}
 use Rattle.theorem_take_back.specs.Laid.{placesOf, startOf, laidAt}
 use Rattle.theorem_take_back.proofs.Fields.{SameFields, same-session, starts-same}
-use Rattle.theorem_take_back.proofs.Rows.{Wide, range-rows}
+use Rattle.lists.proofs.Rows.{Wide, range-rows}
 use Rattle.theorem_take_back.proofs.Places.{start-store}
 use Rattle.theorem_take_back.proofs.Laying.{Setting, Good, count, onlyLast-none, nowhere, fresh-counts, fresh-standing, fresh-starts, counts-low, count-at, stand-at, few-at, even-at, stands-at, start-at, start-unused, pushed-laid, popped-laid, settled-laid}
 

@@ -9,16 +9,16 @@ use borrow.Author.Tests.{eq-eqb}
 use lib.Dec.{eqb}
 use lib.ListN.{length, getD, set, take, drop, replicate, length-append, length-replicate, length-set, replicate-append-replicate, List·getD-eq-default}
 use lib.Seq.{sets, set-append-left, length-sets, set-comm, set-set, set-getD, take-at, drop-at, drop-append-add}
 use Rattle.lists.specs.Lists.{Each, every, from, range, filled, part}
 use Rattle.lists.proofs.Tests.{and-both}
 use Rattle.lists.proofs.Each.{each-set, length-rows}
 use Rattle.lists.proofs.Filled.{filled-none}
 use Rattle.lists.proofs.Parts.{part-row, getD-row}
 
 module _ {A : Type 0} where
   -- ---- several elements stored
 
-  set-append-right : (xs ys : List A) (k : ℕ) (a : A) → set (xs ++ ys) (length xs + k) a ≡ xs ++ set ys k a
+  pub set-append-right : (xs ys : List A) (k : ℕ) (a : A) → set (xs ++ ys) (length xs + k) a ≡ xs ++ set ys k a
   set-append-right [] ys k a = rw (zero-add k)
   set-append-right (x ∷ xs) ys k a = rw (suc-add, set-append-right xs ys k a)
 
