@@ -8,14 +8,14 @@ use borrow.Author.Tests.{eq-eqb, ne-eqb, eqb-true, eqb-false}
 use lib.Dec.{eqb}
 use lib.ListN.{length, getD, set, take, length-append, length-set}
 use lib.Seq.{getD-set-same, getD-set-other, getD-take, length-take-le}
-use Rattle.lists.specs.Lists.{member, isEmpty}
+use Rattle.lists.specs.Lists.{Once, member, isEmpty}
 use Rattle.lists.proofs.Filled.{length-filled, take-filled, set-filled-at}
-use Rattle.lists.proofs.Tests.{empty-length}
+use Rattle.lists.proofs.Tests.{or-right, or-none, empty-length}
+use Rattle.lists.proofs.Once.{not-member, member-snoc, once-snoc, pigeonhole}
 use Rattle.layout_neighbours.specs.Neighbours.{Reach, reach}
-use Rattle.layout_neighbours.specs.Inner.Search.{Distinct, Within, Holds, Slots}
+use Rattle.layout_neighbours.specs.Inner.Search.{Within, Holds, Slots}
 use Rattle.layout_neighbours.specs.declared.Counts.{Counts}
-use Rattle.layout_neighbours.proofs.Choice.{or-right, or-none}
-use Rattle.layout_neighbours.proofs.Distinct.{member-snoc, distinct-snoc, within-snoc, pigeonhole}
+use Rattle.layout_neighbours.proofs.Within.{within-snoc}
 use Rattle.layout_neighbours.proofs.Reaches.{withSlot, withPoint, reach-listed, reach-found, reach-seen, reach-late, reach-visits}
 
 -- the slots of the real points
@@ -45,8 +45,8 @@ module _ {nreal : ℕ} {r : Reach} {visited : List Bool} {nbrs : List ℕ} {c : 
   -- ---- one slot more, one point more
 
   module _ (s : ℕ) (low : s < 40) (new : member s (r .nbrs) ≡ false) where
-    apart-more : Distinct (r .nbrs ++ s ∷ [])
-    apart-more = distinct-snoc (r .nbrs) s (h .apart) new
+    apart-more : Once (r .nbrs ++ s ∷ [])
+    apart-more = once-snoc (r .nbrs) s (h .apart) (not-member s (r .nbrs) new)
 
     below-more : Within 0 40 (r .nbrs ++ s ∷ [])
     below-more = within-snoc 0 40 (r .nbrs) s (h .below) zero-le low
@@ -80,7 +80,7 @@ module _ {nreal : ℕ} {r : Reach} {visited : List Bool} {nbrs : List ℕ} {c : 
 
     pub holds-point : Holds nreal (withPoint r p) (set visited p true) nbrs (record { seen = c .seen + 1; found = c .found })
     holds-point = record {
-      once = distinct-snoc (r .visited) p (h .once) new;
+      once = once-snoc (r .visited) p (h .once) (not-member p (r .visited) new);
       imaginary = within-snoc nreal 14 (r .visited) p (h .imaginary) low high;
       apart = h .apart;
       below = h .below;

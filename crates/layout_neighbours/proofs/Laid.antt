@@ -6,16 +6,17 @@ use mathlib.Core.List.{List, [], _∷_, _++_, map, map-append, flatMap, append-a
 use native.Mathlib.Omega.{arith}
 use lib.ListN.{length, getD, set, take, drop, replicate, length-append, length-map}
 use lib.Seq.{append-snoc, take-at, drop-at, getD-take}
-use Rattle.lists.specs.Lists.{any, from, filled, Each}
+use Rattle.lists.specs.Lists.{any, from, filled, Each, Once}
 use Rattle.lists.proofs.Ranges.{from-snoc, length-from}
 use Rattle.lists.proofs.Filled.{length-filled, set-filled-at}
 use Rattle.lists.proofs.Collect.{flatMap-append}
+use Rattle.lists.proofs.Once.{not-member, once-snoc, pigeonhole}
 use Rattle.layout_neighbours.specs.Neighbours.{Reach, reach, neighboursOf}
 use Rattle.layout_neighbours.specs.Inner.Flat.{neighboursIn}
-use Rattle.layout_neighbours.specs.Inner.Search.{Distinct, Within, Slots, foundIn}
+use Rattle.layout_neighbours.specs.Inner.Search.{Within, Slots, foundIn}
 use Rattle.layout_neighbours.specs.declared.Found.{Found}
 use Rattle.layout_neighbours.specs.declared.ImagNbrs.{ImagNbrs}
-use Rattle.layout_neighbours.proofs.Distinct.{distinct-snoc, within-snoc, pigeonhole}
+use Rattle.layout_neighbours.proofs.Within.{within-snoc}
 use Rattle.layout_neighbours.proofs.Holds.{slots-long}
 use Rattle.lists.proofs.Each.{each-imply, each-map, each-from, each-filled, length-rows}
 use Rattle.layout_neighbours.proofs.Sound.{reach-keeps, pass-always, passes-keeps}
@@ -30,11 +31,11 @@ search-keeps P l ts k p h Q f = f _ (passes-keeps P l ts (pass-always P l ts k) 
 
 module _ (l : List ℕ) (ts : List (List ℕ)) (p : ℕ) where
   -- each neighbour is listed once
-  pub neighbours-distinct : Distinct (neighboursOf l ts p)
-  neighbours-distinct =
-      search-keeps (λ r. Distinct (r .nbrs)) l ts
-      (λ r q d. reach-keeps (λ s. Distinct (s .nbrs)) l r q d (λ g e. distinct-snoc (r .nbrs) (getD l q 0) d e) (λ g e f. d))
-      p tt Distinct (λ r d. d)
+  pub neighbours-once : Once (neighboursOf l ts p)
+  neighbours-once =
+      search-keeps (λ r. Once (r .nbrs)) l ts
+      (λ r q d. reach-keeps (λ s. Once (s .nbrs)) l r q d (λ g e. once-snoc (r .nbrs) (getD l q 0) d (not-member (getD l q 0) (r .nbrs) e)) (λ g e f. d))
+      p tt Once (λ r d. d)
 
   module _ (low : (k : ℕ) → k < length l → getD l k 0 < 40) where
     pub neighbours-below : Within 0 40 (neighboursOf l ts p)
@@ -45,7 +46,7 @@ module _ (l : List ℕ) (ts : List (List ℕ)) (p : ℕ) where
         p (λ s e. absurd (false≢true e)) (Within 0 40) (λ r w. w)
 
     pub neighbours-few : length (neighboursOf l ts p) ≤ 40
-    neighbours-few = pigeonhole 40 0 (neighboursOf l ts p) neighbours-distinct neighbours-below
+    neighbours-few = pigeonhole 40 0 (neighboursOf l ts p) neighbours-once neighbours-below
 
 -- ---- rows of n in a flat list
 

@@ -1,5 +1,4 @@
-pub mod Choice
-pub mod Distinct
+pub mod Within
 pub mod Reaches
 pub mod Holds
 pub mod Triplet

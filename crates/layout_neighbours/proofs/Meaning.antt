@@ -2,7 +2,7 @@
 use Prim.Native.Nat.{ℕ, zero, suc, _+_, _≤_, _<_}
 use mathlib.Core.Path.{_≡_, refl, sym, ap, subst, _∙_}
 use mathlib.Core.Bool.{Bool, true, false, not, _&&_, _||_, false≢true}
-use mathlib.Core.List.{List, [], _∷_, _++_, foldl}
+use mathlib.Core.List.{List, [], _∷_, _++_, foldl, List·Memᴰ·not-nil}
 use mathlib.Core.Logic.{_⊎_, inl, inr, ⊎-elim}
 use native.Mathlib.Omega.{arith}
 use borrow.Author.Tests.{eqb-true, eq-eqb, ltb-true, ltb-false}
@@ -11,13 +11,12 @@ use lib.ListN.{length, getD, length-append}
 use Rattle.lists.specs.Lists.{any, every, member, isEmpty, Each}
 use Rattle.layout_neighbours.specs.Neighbours.{Reach, reach, across, pass, passes, neighboursOf}
 use Rattle.layout_neighbours.specs.Meaning.{share, Linked, here, next, StandsIn, Neighbourhood, Placed, Complete}
-use Rattle.layout_neighbours.proofs.Choice.{or-left, or-right}
-use Rattle.layout_neighbours.proofs.Distinct.{member-snoc, member-here}
 use Rattle.layout_neighbours.proofs.Reaches.{reach-found, reach-visits}
-use Rattle.lists.proofs.Tests.{both, and-both, either, cond-yes}
+use Rattle.lists.proofs.Tests.{or-left, or-right, both, and-both, either, cond-yes}
+use Rattle.lists.proofs.Once.{member-snoc, member-here}
 use Rattle.lists.proofs.Each.{each-member, each-every, each-imply, foldl-keeps, foldl-always}
 use Rattle.layout_neighbours.proofs.Sound.{reach-keeps, across-keeps, across-always, pass-keeps, pass-always, passes-keeps, Visited, visited-few, Low, after, ends, passes-done, passes-on, one-more, enough}
-use Rattle.layout_neighbours.proofs.Laid.{neighbours-distinct}
+use Rattle.layout_neighbours.proofs.Laid.{neighbours-once}
 
 -- ---- members
 
@@ -161,7 +160,7 @@ module _ (l : List ℕ) (ts : List (List ℕ)) where
         ap (λ (x : Reach). member (getD l q 0) (x .nbrs)) (passes-done l ts 13 r (or-left (not (isEmpty (pass l ts r .nbrs))) _ (some-in (getD l q 0) (pass l ts r .nbrs) m))) ∙ m
 
   pub neighbourhood : (p : ℕ) → Neighbourhood l ts p
-  neighbourhood p = record { once = neighbours-distinct l ts p; stand = found-all p; own = λ q h e. own-slot q h p e }
+  neighbourhood p = record { once = neighbours-once l ts p; stand = found-all p; own = λ q h e. own-slot q h p e }
 
   -- ---- a pass that changes nothing
 
@@ -252,7 +251,7 @@ module _ (l : List ℕ) (ts : List (List ℕ)) where
     begin : Visited (length l) 1 (record { visited = p ∷ []; nbrs = [] })
     unfolding any
     begin = record {
-      once = (refl, tt);
+      once = (List·Memᴰ·not-nil, tt);
       imaginary = λ q m.
           ⊎-elim (λ o. let e : p ≡ q = eqb-true p q o in let a = h .imaginary in let b = h .few in (omega arith, omega arith)) (λ o. absurd (false≢true o)) (either (eqb p q) false m);
       more = omega arith;

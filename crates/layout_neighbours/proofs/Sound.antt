@@ -7,12 +7,13 @@ use native.Mathlib.Omega.{arith}
 use borrow.Author.Tests.{ltb-true, ltb-false, eqb-false}
 use lib.Dec.{eqb, ltb}
 use lib.ListN.{length, getD, length-append}
-use Rattle.lists.specs.Lists.{Each, any, member, isEmpty}
+use Rattle.lists.specs.Lists.{Each, Once, any, member, isEmpty}
 use Rattle.lists.proofs.Tests.{neither}
+use Rattle.lists.proofs.Once.{not-member, once-snoc, pigeonhole}
 use Rattle.lists.proofs.Each.{foldl-keeps, foldl-always}
 use Rattle.layout_neighbours.specs.Neighbours.{Reach, reach, across, pass, passes}
-use Rattle.layout_neighbours.specs.Inner.Search.{Distinct, Within}
-use Rattle.layout_neighbours.proofs.Distinct.{distinct-snoc, within-snoc, pigeonhole}
+use Rattle.layout_neighbours.specs.Inner.Search.{Within}
+use Rattle.layout_neighbours.proofs.Within.{within-snoc}
 use Rattle.layout_neighbours.proofs.Reaches.{withSlot, withPoint}
 
 -- ---- what steps keep
@@ -88,7 +89,7 @@ module _ (l : List ℕ) (ts : List (List ℕ)) (n : ℕ) (r : Reach) where
 
 -- imaginary ones among nreal .. nreal + 13, each once, m of them or more
 pub record Visited (nreal m : ℕ) (r : Reach) : Type 0 where
-  pub once : Distinct (r .visited)
+  pub once : Once (r .visited)
   pub imaginary : Within nreal 14 (r .visited)
   pub more : m ≤ length (r .visited)
 
@@ -105,7 +106,7 @@ module _ (l : List ℕ) (ts : List (List ℕ)) (low : Low (length l) ts) where
       reach-keeps (Visited (length l) m) l r p v
       (λ g e. record { once = v .once; imaginary = v .imaginary; more = v .more })
       (λ g e f. record {
-        once = distinct-snoc (r .visited) p (v .once) e;
+        once = once-snoc (r .visited) p (v .once) (not-member p (r .visited) e);
         imaginary = within-snoc (length l) 14 (r .visited) p (v .imaginary) g h;
         more = omega (arith, v .more, length-append (r .visited) (p ∷ []));
       })

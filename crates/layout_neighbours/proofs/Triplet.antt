@@ -7,11 +7,10 @@ use native.Mathlib.Omega.{arith}
 use lib.ListN.{getD, take}
 use Rattle.lists.specs.Lists.{any, member, part}
 use Rattle.lists.proofs.Parts.{part-three}
-use Rattle.lists.proofs.Tests.{cond-yes, cond-no}
+use Rattle.lists.proofs.Tests.{or-three, cond-yes, cond-no}
 use Rattle.layout_neighbours.specs.Neighbours.{Reach, reach, across}
 use Rattle.layout_neighbours.specs.Inner.Search.{Holds, Points, Slots}
 use Rattle.layout_neighbours.specs.declared.Counts.{Counts}
-use Rattle.layout_neighbours.proofs.Choice.{or-three}
 
 -- the points of triplet t
 abbrev pub first : List ℕ → ℕ → ℕ

@@ -5,9 +5,8 @@ use mathlib.Core.Bool.{Bool, true, _&&_}
 use mathlib.Core.List.{List, [], _∷_}
 use lib.Dec.{ltb}
 use lib.ListN.{length, getD}
-use Rattle.lists.specs.Lists.{any, every, member}
+use Rattle.lists.specs.Lists.{Once, any, every, member}
 use Rattle.layout_neighbours.specs.Neighbours.{passes, neighboursOf}
-use Rattle.layout_neighbours.specs.Inner.Search.{Distinct}
 
 -- some triplet holds both p and q
 unfoldable pub share : List (List ℕ) → ℕ → ℕ → Bool
@@ -30,7 +29,7 @@ pub record StandsIn (out : List ℕ) (tris : List (List ℕ)) (p s : ℕ) : Type
 -- Each neighbour is listed once and stands in; the slots of the real points that share a triplet with p itself are all among them.
 -- (Where p has such points there can be others besides: an imaginary point that was visited before the first slot was found widens the pass.)
 pub record Neighbourhood (out : List ℕ) (tris : List (List ℕ)) (p : ℕ) : Type 0 where
-  pub once : Distinct (neighboursOf out tris p)
+  pub once : Once (neighboursOf out tris p)
   pub stand : (s : ℕ) → member s (neighboursOf out tris p) ≡ true → StandsIn out tris p s
   pub own : (q : ℕ) → q < length out → share tris p q ≡ true → member (getD out q 0) (neighboursOf out tris p) ≡ true
 

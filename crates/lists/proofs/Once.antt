@@ -1,17 +1,18 @@
 -- Laws of members and of lists that hold each element once: a member by its place, by a test and by a filter; lists with the same members. Each goes by the list. Assumes nothing.
-use Prim.Native.Nat.{ℕ, zero, suc, _≤_, _<_}
+use Prim.Native.Nat.{ℕ, zero, suc, _+_, _-_, _≤_, _<_}
 use mathlib.Core.Path.{_≡_, refl, sym, ap, _∙_, subst}
 use mathlib.Core.Logic.{_⊎_, inl, inr, ⊎-elim}
-use mathlib.Core.Bool.{Bool, true, false, cond, false≢true}
-use mathlib.Core.List.{List, [], _∷_, _++_, map, List·Memᴰ, List·Memᴰ·head, List·Memᴰ·tail, List·Memᴰ·not-nil, List·Memᴰ·cases-cons, List·Memᴰ·append-cases, Memᴰ·append-left, Memᴰ·append-right, Memᴰ·cast, Memᴰ·of-map, List·Permᴰ, List·Permᴰ·nil, List·Permᴰ·cons, List·Permᴰ·trans, Permᴰ·symm, Permᴰ·middle}
+use mathlib.Core.Bool.{Bool, true, false, _||_, cond, false≢true}
+use mathlib.Core.List.{List, [], _∷_, _++_, map, List·Memᴰ, List·Memᴰ·head, List·Memᴰ·tail, List·Memᴰ·not-nil, List·Memᴰ·cases-cons, List·Memᴰ·append-cases, List·Memᴰ·eq-of-singleton, Memᴰ·append-left, Memᴰ·append-right, Memᴰ·cast, Memᴰ·of-map, List·Permᴰ, List·Permᴰ·nil, List·Permᴰ·cons, List·Permᴰ·swap, List·Permᴰ·trans, Permᴰ·symm, Permᴰ·middle}
 use native.Mathlib.Nat.{not-suc-le-zero}
 use native.Mathlib.Omega.{arith}
 use borrow.Author.Tests.{eqb-true, eq-eqb, ne-eqb}
 use lib.Dec.{eqb}
 use lib.ListN.{length, getD, length-append}
-use Rattle.lists.specs.Lists.{Once, range, filter, every, any, member, isEmpty, position}
-use Rattle.lists.proofs.Tests.{either, both}
-use Rattle.lists.proofs.Ranges.{length-range, getD-range}
+use Rattle.lists.specs.Lists.{Each, Once, from, range, filter, every, any, member, isEmpty, position}
+use Rattle.lists.proofs.Tests.{either, both, neither, or-right, any-snoc}
+use Rattle.lists.proofs.Ranges.{length-from, getD-from}
+use Rattle.lists.proofs.Each.{each-imply}
 
 -- ---- a member by its place
 
@@ -71,8 +72,40 @@ mem-member p (a ∷ l) m = by (eqb a p) refl (λ i. mem-member p l i) (List·Mem
     by false e rest (inl g) = let z = eq-eqb a p (sym g) in absurd (false≢true (sym e ∙ z))
     by false e rest (inr i) = rw e (rest i)
 
+pub not-member : (p : ℕ) (l : List ℕ) → member p l ≡ false → List·Memᴰ p l → ⊥
+not-member p l e m = false≢true (sym e ∙ mem-member p l m)
+
+pub member-here : (p : ℕ) (l : List ℕ) → member p (p ∷ l) ≡ true
+member-here p l = mem-member p (p ∷ l) (List·Memᴰ·head refl)
+
+pub member-snoc : (p : ℕ) (l : List ℕ) (a : ℕ) → member p (l ++ a ∷ []) ≡ member p l || eqb a p
+member-snoc p l a = any-snoc (λ q. eqb q p) l a
+
+-- a list's own elements
+pub member-self : (l : List ℕ) → Each (λ p. member p l ≡ true) l
+unfolding any
+member-self [] = tt
+member-self (a ∷ l) = (member-here a l, each-imply (λ p. member p l ≡ true) (λ p. member p (a ∷ l) ≡ true) (λ p e. or-right (eqb a p) (member p l) e) l (member-self l))
+
+-- elements that all differ from p
+pub none-member : (p : ℕ) (l : List ℕ) → member p l ≡ false → Each (λ q. eqb q p ≡ false) l
+unfolding any
+none-member p [] e = tt
+none-member p (a ∷ l) e = let g = neither (eqb a p) (member p l) e in (g .0, none-member p l (g .1))
+
+pub member-none : (p : ℕ) (l : List ℕ) → Each (λ q. eqb q p ≡ false) l → member p l ≡ false
+unfolding any
+member-none p [] h = refl
+member-none p (a ∷ l) h = rw (h .0) (member-none p l (h .1))
+
+pub mem-from : (a n p : ℕ) → a ≤ p → p < a + n → List·Memᴰ p (from a n)
+mem-from a n p l h =
+    let e : p ≡ a + (p - a) = omega arith in
+    Memᴰ·cast (e ∙ sym (getD-from a n (p - a) 0 (omega arith))) (mem-getD (from a n) (p - a) 0 (omega (arith, length-from a n)))
+
 pub mem-range : (n p : ℕ) → p < n → List·Memᴰ p (range n)
-mem-range n p h = Memᴰ·cast (sym (getD-range n p 0 h)) (mem-getD (range n) p 0 (omega (arith, length-range n)))
+unfolding range
+mem-range n p h = mem-from 0 n p (omega arith) (omega arith)
 
 -- ---- filter
 
@@ -114,6 +147,44 @@ module _ {A : Type 0} where
   pub once-places : (l : List A) (d : A) → ((p q : ℕ) → p < q → q < length l → getD l p d ≡ getD l q d → ⊥) → Once l
   once-places [] d h = tt
   once-places (a ∷ l) d h = (λ i. let r = mem-place l d i in h 0 (suc (r .0)) (omega arith) (omega (arith, r .1)) (sym (r .2)), once-places l d (λ p q g m. h (suc p) (suc q) (omega arith) (omega arith)))
+
+  pub once-apart : (l : List A) (p q : ℕ) (d : A) → Once l → p < q → q < length l → getD l p d ≡ getD l q d → ⊥
+  once-apart [] p q d o h g e = not-suc-le-zero g
+  once-apart (a ∷ l) p zero d o h g e = not-suc-le-zero h
+  once-apart (a ∷ l) zero (suc q) d o h g e = o .0 (Memᴰ·cast e (mem-getD l q d (omega arith)))
+  once-apart (a ∷ l) (suc p) (suc q) d o h g e = once-apart l p q d (o .1) (omega arith) (omega arith) e
+
+  -- one element more
+  pub once-snoc : (l : List A) (a : A) → Once l → (List·Memᴰ a l → ⊥) → Once (l ++ a ∷ [])
+  once-snoc [] a o n = (n, tt)
+  once-snoc (b ∷ l) a o n = (
+    λ i. ⊎-elim (o .0) (λ (j : List·Memᴰ b (a ∷ [])). n (List·Memᴰ·head (sym (List·Memᴰ·eq-of-singleton j)))) (List·Memᴰ·append-cases l i),
+    once-snoc l a (o .1) (λ i. n (List·Memᴰ·tail i)),
+  )
+
+  -- the elements in another order
+  pub each-perm : (P : A → Type 0) {s l : List A} → List·Permᴰ s l → Each P l → Each P s
+  each-perm P List·Permᴰ·nil h = h
+  each-perm P (List·Permᴰ·cons e p) h = (subst P (sym e) (h .0), each-perm P p (h .1))
+  each-perm P (List·Permᴰ·swap e f) h = (subst P (sym e) (h .1 .0), (subst P (sym f) (h .0), h .1 .1))
+  each-perm P (List·Permᴰ·trans p q) h = each-perm P p (each-perm P q h)
+
+  mem-perm : {s l : List A} {a : A} → List·Permᴰ s l → List·Memᴰ a s → List·Memᴰ a l
+  mem-perm List·Permᴰ·nil i = i
+  mem-perm (List·Permᴰ·cons e p) i = ⊎-elim (λ g. List·Memᴰ·head (g ∙ e)) (λ j. List·Memᴰ·tail (mem-perm p j)) (List·Memᴰ·cases-cons i)
+  mem-perm (List·Permᴰ·swap e f) i =
+      ⊎-elim (λ g. List·Memᴰ·tail (List·Memᴰ·head (g ∙ e)))
+      (λ j. ⊎-elim (λ g. List·Memᴰ·head (g ∙ f)) (λ k. List·Memᴰ·tail (List·Memᴰ·tail k)) (List·Memᴰ·cases-cons j)) (List·Memᴰ·cases-cons i)
+  mem-perm (List·Permᴰ·trans p q) i = mem-perm q (mem-perm p i)
+
+  pub once-perm : {s l : List A} → List·Permᴰ s l → Once l → Once s
+  once-perm List·Permᴰ·nil o = o
+  once-perm (List·Permᴰ·cons e p) o = (λ i. o .0 (mem-perm p (Memᴰ·cast (sym e) i)), once-perm p (o .1))
+  once-perm (List·Permᴰ·swap e f) o = (
+    λ i. ⊎-elim (λ g. o .0 (List·Memᴰ·head (sym f ∙ sym g ∙ e))) (λ j. o .1 .0 (Memᴰ·cast (sym e) j)) (List·Memᴰ·cases-cons i),
+    (λ j. o .0 (List·Memᴰ·tail (Memᴰ·cast (sym f) j)), o .1 .1),
+  )
+  once-perm (List·Permᴰ·trans p q) o = once-perm p (once-perm q o)
 
   pub once-map : {B : Type 0} (f : A → B) → ((a b : A) → f a ≡ f b → a ≡ b) → (l : List A) → Once l → Once (map f l)
   once-map f g [] o = tt
@@ -176,6 +247,11 @@ module _ {A : Type 0} where
           ⊎-elim (λ (g : x ≡ a). absurd (q .0 (Memᴰ·cast (sym g) i))) (λ (j : List·Memᴰ x l). j)
           (List·Memᴰ·cases-cons (g x (subst (λ (n : List A). List·Memᴰ x n) (sym e) (more a b c i)))) in
           subst (λ (n : List A). List·Permᴰ (a ∷ l) n) (sym e) (List·Permᴰ·trans (List·Permᴰ·cons refl (rest (b ++ c) (q .1) h k)) (Permᴰ·symm (Permᴰ·middle a b c)))
+
+-- n numbers or fewer from a on
+pub pigeonhole : (n a : ℕ) (l : List ℕ) → Once l → ((p : ℕ) → member p l ≡ true → (a ≤ p) × (p < a + n)) → length l ≤ n
+pigeonhole n a l o h =
+    omega (arith, length-from a n, once-fewer l (from a n) o (λ p i. let b = h p (mem-member p l i) in mem-from a n p (b .0) (b .1)))
 
 -- ---- the place of a number
 

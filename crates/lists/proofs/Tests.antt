@@ -35,6 +35,23 @@ pub or-true : (a : Bool) → a || true ≡ true
 or-true true = refl
 or-true false = refl
 
+pub or-left : (a b : Bool) → a ≡ true → a || b ≡ true
+or-left a b e = rw e
+
+pub or-right : (a b : Bool) → b ≡ true → a || b ≡ true
+or-right true b e = refl
+or-right false b e = e
+
+pub or-none : {a b : Bool} → b ≡ false → a || b ≡ a
+or-none {a = true} e = refl
+or-none {a = false} e = e
+
+pub or-three : (a b c : Bool) → a || (b || (c || false)) ≡ a || b || c
+or-three true b c = refl
+or-three false true c = refl
+or-three false false true = refl
+or-three false false false = refl
+
 pub and-false : (a b : Bool) → b ≡ false → a && b ≡ false
 and-false true b e = e
 and-false false b e = refl

@@ -8,7 +8,7 @@ use borrow.Author.Tests.{ne-eqb}
 use lib.Dec.{T, lit≤, lit<, eqb}
 use lib.ListN.{length, getD, length-map, length-append}
 use lib.Ieee.{Float, nan, inf, fin, binary32, binary64, fits, isNan, le, lt, eq}
-use Rattle.lists.specs.Lists.{range, between, every, member, filled, Each}
+use Rattle.lists.specs.Lists.{range, between, every, member, filled, Each, Once}
 use Rattle.lists.proofs.Ranges.{length-between}
 use Rattle.float_order.specs.Values.{+0, 1·0, abs}
 use Rattle.float_widths.specs.Narrow.{narrowOf}
@@ -21,7 +21,6 @@ use Rattle.layout_planar.specs.Planar.{noPair, pairsOf}
 use Rattle.layout_hull.specs.Triplets.{Triplet, tripletsOf}
 use Rattle.layout_closing.specs.Closing.{finalPoints}
 use Rattle.layout_closing.proofs.Meaning.{imaginary-meaning}
-use Rattle.layout_neighbours.specs.Inner.Search.{Distinct}
 use Rattle.layout_neighbours.specs.Neighbours.{neighboursOf}
 use Rattle.layout_record.specs.Shape.{numbers, Shape, silent, mono, planar, hull, Layout}
 use Rattle.layout_record.specs.Panner.{pairsIn, hullIn, laid}
@@ -31,14 +30,14 @@ use Rattle.layout_new.proofs.Slots.{active-few}
 use Rattle.float_bounds.proofs.Size.{Mag}
 use Rattle.theorem_layouts.specs.Sound.{Within, SoundLaw, SoundPair, SoundPlanar, SoundTriplet, SoundDirection, SoundNeighbours, SoundHull, Sound, Active, Number, NumberLaw, NumberPair, NoNan, LayoutSound, PannerNoNan, SlotsActive, LfeUnused}
 use Rattle.lists.proofs.Each.{each-all, each-imply, each-append, each-getD, each-filled, each-map, each-flatMap, each-range, each-member}
-use Rattle.theorem_layouts.proofs.Distinct.{member-none}
+use Rattle.lists.proofs.Once.{member-none}
 use Rattle.theorem_layouts.proofs.Directions.{L, Direction}
 use Rattle.theorem_layouts.proofs.Inverses.{narrow-within}
 use Rattle.theorem_layouts.proofs.Pairs.{pairs-sound}
 use Rattle.theorem_layouts.proofs.Faces.{triplets-sound}
 use Rattle.theorem_layouts.proofs.Closed.{final-unit}
 use Rattle.theorem_layouts.proofs.Neighbours.{neighbours-sound}
-use Rattle.theorem_layouts.proofs.Speakers.{ActiveSpeaker, active-each, active-distinct}
+use Rattle.theorem_layouts.proofs.Speakers.{ActiveSpeaker, active-each, active-once}
 
 -- ---- the hull
 
@@ -52,7 +51,7 @@ narrow-direction d h = record {
     one : (v : Float) → Mag binary64 v L → Within 1·0 (narrowOf v)
     one v m = narrow-within v 1·0 m tt (record { has = (refl, refl) }) (lit< tt) (lit≤ tt)
 
-module _ (outputs : ℕ) (act : List Speaker) (unit : Each (λ s. Direction (s .dir)) act) (apart : Distinct (slotsOf act)) (low : Each (λ o. o < outputs) (slotsOf act)) (few : length act ≤ outputs) (two : 2 ≤ length act) where
+module _ (outputs : ℕ) (act : List Speaker) (unit : Each (λ s. Direction (s .dir)) act) (apart : Once (slotsOf act)) (low : Each (λ o. o < outputs) (slotsOf act)) (few : length act ≤ outputs) (two : 2 ≤ length act) where
   slots-many : length (slotsOf act) ≡ length act
   unfolding slotsOf
   slots-many = length-map act (λ s. s .slot)
@@ -96,7 +95,7 @@ module _ (outputs : ℕ) (act : List Speaker) (unit : Each (λ s. Direction (s .
 
 -- ---- a layout
 
-shape-sound : (outputs : ℕ) (act : List Speaker) → Each (λ s. Direction (s .dir)) act → Distinct (slotsOf act) → Each (λ o. o < outputs) (slotsOf act) → length act ≤ outputs → Sound outputs (shapeOf act)
+shape-sound : (outputs : ℕ) (act : List Speaker) → Each (λ s. Direction (s .dir)) act → Once (slotsOf act) → Each (λ o. o < outputs) (slotsOf act) → length act ≤ outputs → Sound outputs (shapeOf act)
 unfolding shapeOf Sound slotsOf
 shape-sound outputs [] u d l f = tt
 shape-sound outputs (s ∷ []) u d l f = l .0
@@ -111,7 +110,7 @@ unfolding layoutOf slotsOf
 layout-sound positions lfe h =
     let act = active positions lfe in
     let e = active-each positions lfe h in
-    shape-sound (outputsOf positions) act (each-imply (ActiveSpeaker positions lfe) (λ s. Direction (s .dir)) (λ s g. g .unit) act e) (active-distinct positions lfe)
+    shape-sound (outputsOf positions) act (each-imply (ActiveSpeaker positions lfe) (λ s. Direction (s .dir)) (λ s g. g .unit) act e) (active-once positions lfe)
     (each-map (λ o. o < outputsOf positions) (λ s. s .slot) act (each-imply (ActiveSpeaker positions lfe) (λ s. s .slot < outputsOf positions) (λ s g. g .at .low) act e)) (active-few positions lfe)
 
 -- ---- no NaN

@@ -1,4 +1,4 @@
-pub mod Distinct
+pub mod Sorted
 pub mod Directions
 pub mod Inverses
 pub mod Pairs

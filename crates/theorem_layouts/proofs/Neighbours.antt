@@ -6,12 +6,11 @@ use mathlib.Core.List.{List, [], _∷_}
 use lib.ListN.{getD}
 use Rattle.lists.specs.Lists.{member}
 use Rattle.layout_neighbours.specs.Neighbours.{Reach, reach, neighboursOf}
-use Rattle.layout_neighbours.proofs.Distinct.{distinct-snoc}
 use Rattle.layout_neighbours.proofs.Sound.{reach-keeps}
 use Rattle.layout_neighbours.proofs.Laid.{search-keeps}
 use Rattle.theorem_layouts.specs.Sound.{SoundNeighbours}
 use Rattle.lists.proofs.Each.{each-append, each-getD}
-use Rattle.theorem_layouts.proofs.Distinct.{member-self}
+use Rattle.lists.proofs.Once.{member-self, not-member, once-snoc}
 
 module _ (out : List ℕ) where
   abbrev Kept : Reach → Type 0
@@ -21,7 +20,7 @@ module _ (out : List ℕ) where
   reach-kept r p h =
       reach-keeps Kept out r p h
       (λ l e. record {
-        apart = distinct-snoc (r .nbrs) (getD out p 0) (h .apart) e;
+        apart = once-snoc (r .nbrs) (getD out p 0) (h .apart) (not-member (getD out p 0) (r .nbrs) e);
         real = each-append (λ o. member o out ≡ true) (r .nbrs) (getD out p 0 ∷ []) (h .real) (each-getD (λ o. member o out ≡ true) out p 0 l (member-self out), tt);
       })
       (λ l e f. h)

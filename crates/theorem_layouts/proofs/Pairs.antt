@@ -11,7 +11,7 @@ use lib.Dec.{T, lit≤, lit<, eqb}
 use lib.Pow.{pow-pos}
 use lib.ListN.{length, getD, length-map, List·getD-map}
 use lib.Ieee.{Float, nan, binary32, binary64, sub, neg, div, lt, fits, ofBits}
-use Rattle.lists.specs.Lists.{range, member, Each}
+use Rattle.lists.specs.Lists.{range, member, Each, Once}
 use Rattle.float_order.specs.Values.{abs}
 use Rattle.float_widths.specs.Narrow.{narrowOf}
 use Rattle.float_order.specs.Remainder.{remEuclidOf}
@@ -22,7 +22,6 @@ use Rattle.vector.specs.Vector.{z, minor}
 use Rattle.vector.specs.Speakers.{Speaker, slotsOf}
 use Rattle.angle_sort.specs.declared.Spot.{Spot}
 use Rattle.angle_sort.proofs.Insertion.{length-sorted}
-use Rattle.layout_neighbours.specs.Inner.Search.{Distinct}
 use Rattle.layout_planar.specs.declared.Law.the-variants.{Inverse, Crossfade}
 use Rattle.layout_planar.specs.Planar.{leastSecondGap, leastPairDeterminant, coincident, maxVbapGap, spotOf, ring, gapAt, inverseLaw, lawOf, pairOf, spotAt, pairAt, pairsOf}
 use Rattle.float_bounds.proofs.Units.{Val, unitsOf, narrow-round}
@@ -35,7 +34,8 @@ use Rattle.float_bounds.proofs.Sine.{sin-mag, cos-mag}
 use Rattle.float_bounds.proofs.Arctangent.{atan2-mag}
 use Rattle.theorem_layouts.specs.Sound.{Within, SoundLaw, SoundPair, pi32, tau32, leastGap, largestInverse}
 use Rattle.lists.proofs.Each.{Some, each-map, each-unmap, each-both, each-getD, each-collect, each-range}
-use Rattle.theorem_layouts.proofs.Distinct.{member-self, distinct-places, each-sorted, sorted-distinct, numbersOf}
+use Rattle.lists.proofs.Once.{member-self, once-apart}
+use Rattle.theorem_layouts.proofs.Sorted.{each-sorted, sorted-once, numbersOf}
 use Rattle.theorem_layouts.proofs.Directions.{L, Direction, x-mag, z-mag}
 use Rattle.theorem_layouts.proofs.Inverses.{narrow-within, minor-mag, entry-within}
 
@@ -133,7 +133,7 @@ next-place n i h k = elim (le-or-lt n (i + 1)) [
 number-at : (l : List Spot) (i : ℕ) → getD (numbersOf l) i 0 ≡ spotAt l i .number
 number-at l i = List·getD-map (λ (s : Spot). s .number) l i (record { angle = nan; number = 0 })
 
-pair-at : (slots : List ℕ) (l : List Spot) (i : ℕ) → Each (SpotIn slots) l → Distinct (numbersOf l) → 2 ≤ length l → i < length l → Some (SoundPair slots) (pairAt l i)
+pair-at : (slots : List ℕ) (l : List Spot) (i : ℕ) → Each (SpotIn slots) l → Once (numbersOf l) → 2 ≤ length l → i < length l → Some (SoundPair slots) (pairAt l i)
 unfolding pairAt
 pair-at slots l i e d two h =
     let j = (i + 1) % length l in
@@ -145,8 +145,8 @@ pair-at slots l i e d two h =
     pair-sound s t
     (λ q. let r : getD (numbersOf l) i 0 ≡ getD (numbersOf l) j 0 = number-at l i ∙ q ∙ sym (number-at l j) in
     elim n [
-      | inl g ↦ distinct-places (numbersOf l) i j 0 d (g .0) (omega arith) r
-      | inr g ↦ distinct-places (numbersOf l) j i 0 d g (omega arith) (sym r)
+      | inl g ↦ once-apart (numbersOf l) i j 0 d (g .0) (omega arith) r
+      | inr g ↦ once-apart (numbersOf l) j i 0 d g (omega arith) (sym r)
     ])
     (gap-from-zero (length l) i (s .azimuth) (t .azimuth))
 
@@ -161,7 +161,7 @@ spot-in : (slots : List ℕ) (s : Speaker) → Direction (s .dir) → member (s 
 unfolding spotOf
 spot-in slots s d h = record { azimuth = atan2-mag (x-mag d) (mag-neg (z-mag d)); slot = h }
 
-pub pairs-sound : (act : List Speaker) → Each (λ s. Direction (s .dir)) act → Distinct (slotsOf act) → 2 ≤ length act → Each (SoundPair (slotsOf act)) (pairsOf act)
+pub pairs-sound : (act : List Speaker) → Each (λ s. Direction (s .dir)) act → Once (slotsOf act) → 2 ≤ length act → Each (SoundPair (slotsOf act)) (pairsOf act)
 unfolding pairsOf ring slotsOf
 pairs-sound act e d two =
     let slots = slotsOf act in
@@ -173,4 +173,4 @@ pairs-sound act e d two =
     each-collect (SoundPair slots) (pairAt (ring act)) (range (length act))
     (each-range (λ i. Some (SoundPair slots) (pairAt (ring act) i)) (length act)
     (λ i h. pair-at slots (ring act) i (each-sorted (SpotIn slots) (map spotOf act) spots)
-    (sorted-distinct (map spotOf act) (subst Distinct (sym (numbers-spots act)) d)) (omega arith) (omega arith)))
+    (sorted-once (map spotOf act) (subst Once (sym (numbers-spots act)) d)) (omega arith) (omega arith)))

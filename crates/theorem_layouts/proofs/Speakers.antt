@@ -8,15 +8,14 @@ use native.Mathlib.Omega.{arith}
 use borrow.Author.Tests.{ne-eqb}
 use lib.Dec.{T, eqb}
 use lib.Ieee.{Float, binary32, fits}
-use Rattle.lists.specs.Lists.{from, range, collect, joined, member, part, Each}
+use Rattle.lists.specs.Lists.{from, range, collect, joined, member, part, Each, Once}
 use Rattle.lists.proofs.Parts.{length-part}
 use Rattle.vector.specs.Vector.{Vector, unitOf}
 use Rattle.vector.specs.Speakers.{Speaker, slotsOf}
-use Rattle.layout_neighbours.specs.Inner.Search.{Distinct}
 use Rattle.layout_new.specs.Layout.{outputsOf, inSlot, speakerAt, active}
 use Rattle.theorem_layouts.specs.Sound.{Active}
 use Rattle.lists.proofs.Each.{Some, each-imply, each-map, each-part, each-collect, each-from, each-range}
-use Rattle.theorem_layouts.proofs.Distinct.{member-none}
+use Rattle.lists.proofs.Once.{not-member, member-none}
 use Rattle.theorem_layouts.proofs.Directions.{Direction, unit-direction}
 
 -- an active slot and its direction
@@ -59,25 +58,25 @@ module _ (positions : List Float) (lfe : List ℕ) where
   some-imply P Q k none h = tt
   some-imply P Q k (some s) h = k s h
 
-  from-distinct : (a n : ℕ) → Distinct (slotsOf (collect (speakerAt positions lfe) (from a n)))
+  from-once : (a n : ℕ) → Once (slotsOf (collect (speakerAt positions lfe) (from a n)))
   unfolding from collect slotsOf
-  from-distinct a zero = tt
-  from-distinct a (suc n) =
-      by (speakerAt positions lfe a) (in-place a) (from-distinct (suc a) n)
+  from-once a zero = tt
+  from-once a (suc n) =
+      by (speakerAt positions lfe a) (in-place a) (from-once (suc a) n)
       (each-collect (λ s. suc a ≤ s .slot) (speakerAt positions lfe) (from (suc a) n)
       (each-from (λ i. Some (λ s. suc a ≤ s .slot) (speakerAt positions lfe i)) (suc a) n
       (λ i h l. some-imply (λ s. s .slot ≡ i) (λ s. suc a ≤ s .slot) (λ s e. omega arith) (speakerAt positions lfe i) (in-place i))))
     where
-      by : (o : Option Speaker) → Some (λ s. s .slot ≡ a) o → Distinct (slotsOf (collect (speakerAt positions lfe) (from (suc a) n))) → Each (λ s. suc a ≤ s .slot) (collect (speakerAt positions lfe) (from (suc a) n))
-          → Distinct (slotsOf (joined o (collect (speakerAt positions lfe) (from (suc a) n))))
+      by : (o : Option Speaker) → Some (λ s. s .slot ≡ a) o → Once (slotsOf (collect (speakerAt positions lfe) (from (suc a) n))) → Each (λ s. suc a ≤ s .slot) (collect (speakerAt positions lfe) (from (suc a) n))
+          → Once (slotsOf (joined o (collect (speakerAt positions lfe) (from (suc a) n))))
       by none e d k = d
       by (some s) e d k = (
-        member-none (s .slot) (slotsOf (collect (speakerAt positions lfe) (from (suc a) n)))
+        not-member (s .slot) (slotsOf (collect (speakerAt positions lfe) (from (suc a) n))) (member-none (s .slot) (slotsOf (collect (speakerAt positions lfe) (from (suc a) n)))
             (each-map (λ o. eqb o (s .slot) ≡ false) (λ t. t .slot) (collect (speakerAt positions lfe) (from (suc a) n))
-            (each-imply (λ t. suc a ≤ t .slot) (λ t. eqb (t .slot) (s .slot) ≡ false) (λ t h. ne-eqb (t .slot) (s .slot) (λ g. omega arith)) (collect (speakerAt positions lfe) (from (suc a) n)) k)),
+            (each-imply (λ t. suc a ≤ t .slot) (λ t. eqb (t .slot) (s .slot) ≡ false) (λ t h. ne-eqb (t .slot) (s .slot) (λ g. omega arith)) (collect (speakerAt positions lfe) (from (suc a) n)) k))),
         d,
       )
 
-  pub active-distinct : Distinct (slotsOf (active positions lfe))
+  pub active-once : Once (slotsOf (active positions lfe))
   unfolding active range
-  active-distinct = from-distinct 0 (outputsOf positions)
+  active-once = from-once 0 (outputsOf positions)

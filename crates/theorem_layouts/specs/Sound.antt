@@ -9,14 +9,13 @@ use lib.Dec.{T}
 use lib.ListN.{length}
 use lib.IntN.{pos}
 use lib.Ieee.{Float, fin, binary32, fits, isNan, le, ofBits}
-use Rattle.lists.specs.Lists.{Each, member, part}
+use Rattle.lists.specs.Lists.{Each, member, part, Once}
 use Rattle.float_order.specs.Values.{1·0, abs}
 use Rattle.vector.specs.Vector.{Vector, unitOf}
 use Rattle.layout_planar.specs.declared.Law.{Law}
 use Rattle.layout_planar.specs.declared.Law.the-variants.{Inverse, Crossfade}
 use Rattle.layout_planar.specs.declared.PlanarPair.{PlanarPair}
 use Rattle.layout_hull.specs.Triplets.{Triplet}
-use Rattle.layout_neighbours.specs.Inner.Search.{Distinct}
 use Rattle.layout_record.specs.declared.VbapPanner.{VbapPanner}
 use Rattle.layout_record.specs.Shape.{HullShape, Shape, silent, mono, planar, hull}
 use Rattle.layout_record.specs.Malformed.{usedSlots}
@@ -64,7 +63,7 @@ pub record SoundPair (slots : List ℕ) (p : PlanarPair) : Type 0 where
 pub record SoundPlanar (outputs : ℕ) (pairs : List PlanarPair) (slots : List ℕ) : Type 0 where
   pub few : length slots ≤ outputs
   pub two : 2 ≤ length slots
-  pub apart : Distinct slots
+  pub apart : Once slots
   pub low : Each (λ o. o < outputs) slots
   pub each : Each (SoundPair slots) pairs
 
@@ -85,14 +84,14 @@ pub record SoundDirection (d : Vector) : Type 0 where
 
 -- what stands in for an imaginary point: real points' slots, each once
 pub record SoundNeighbours (out nbrs : List ℕ) : Type 0 where
-  pub apart : Distinct nbrs
+  pub apart : Once nbrs
   pub real : Each (λ o. member o out ≡ true) nbrs
 
 -- Origin of 14: MAX_IMAGINARY, vbap.rs line 60 and document 01.
 pub record SoundHull (outputs : ℕ) (h : HullShape) : Type 0 where
   pub few : length (h .out) ≤ outputs
   pub two : 2 ≤ length (h .out)
-  pub apart : Distinct (h .out)
+  pub apart : Once (h .out)
   pub low : Each (λ o. o < outputs) (h .out)
   pub as-many : length (h .dirs) ≡ length (h .out)
   pub dirs : Each SoundDirection (h .dirs)

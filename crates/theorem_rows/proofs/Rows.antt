@@ -11,7 +11,7 @@ use lib.Ieee.Fits.{cond-fits}
 use lib.Ieee.Scale.{finite}
 use Rattle.lists.specs.Lists.{member, Each}
 use Rattle.float_order.specs.Values.{+0, 1·0, isFinite}
-use Rattle.layout_neighbours.proofs.Distinct.{pigeonhole}
+use Rattle.lists.proofs.Once.{pigeonhole}
 use Rattle.layout_record.specs.Shape.{HullShape, Shape, silent, mono, planar, hull}
 use Rattle.layout_new.specs.Layout.{outputsOf, layoutOf}
 use Rattle.row_planar.specs.PlanarRow.{planarRow}

@@ -18,7 +18,7 @@ use Rattle.layout_new.proofs.Answers.{accepted-fits, accepted-read-back, never-
 use Rattle.row_gains.specs.Gains.{finiteOr0, rowOf, gainsOf, gainsNumber, gainsBuffer}
 use Rattle.lists.proofs.Each.{each-all}
 use Rattle.lists.specs.Lists.{Each}
-use Rattle.theorem_layouts.proofs.Distinct.{none-member}
+use Rattle.lists.proofs.Once.{none-member}
 use Rattle.theorem_layouts.proofs.Layouts.{lfe-unused}
 use Rattle.theorem_rows.specs.Silent.{RowLength, UnusedSilent, LfeSilent, RecordNumber, RecordRow, filledPlaces, RecordRowFinite, RecordLfeSilent}
 use Rattle.theorem_rows.proofs.Powers.{scaled-zero, scaled-length}

@@ -2,19 +2,14 @@
 use Prim.Native.Nat.{ℕ, _+_, _*_, _≤_, _<_}
 use mathlib.Core.Path.{_≡_}
 use mathlib.Core.Bool.{Bool, true, false}
-use mathlib.Core.List.{List, [], _∷_}
+use mathlib.Core.List.{List}
 use lib.ListN.{length, getD}
-use Rattle.lists.specs.Lists.{member, filled}
+use Rattle.lists.specs.Lists.{Once, member, filled}
 use Rattle.layout_neighbours.specs.Neighbours.{Reach}
 use Rattle.layout_neighbours.specs.declared.Counts.{Counts}
 use Rattle.layout_neighbours.specs.declared.Found.{Found}
 
 -- Origin of the bounds: 40 slots and speakers (document 01, refusal 2), 14 imaginary points (vbap.rs line 60), 54 points in all; 80 triplets (refusal 4), whose numbers are 240.
-
--- no element twice
-abbrev pub Distinct : List ℕ → Type 0
-Distinct [] = Unit
-Distinct (x ∷ l) = (member x l ≡ false) × Distinct l
 
 -- every element is at least a and below a + n
 abbrev pub Within : ℕ → ℕ → List ℕ → Type 0
@@ -22,9 +17,9 @@ Within a n l = (p : ℕ) → member p l ≡ true → (a ≤ p) × (p < a + n)
 
 -- r is a state of the search, and the arrays and counts hold it
 pub record Holds (nreal : ℕ) (r : Reach) (visited : List Bool) (nbrs : List ℕ) (c : Counts) : Type 0 where
-  pub once : Distinct (r .visited)
+  pub once : Once (r .visited)
   pub imaginary : Within nreal 14 (r .visited)
-  pub apart : Distinct (r .nbrs)
+  pub apart : Once (r .nbrs)
   pub below : Within 0 40 (r .nbrs)
   pub long : length visited ≡ 54
   pub marks : (p : ℕ) → p < 54 → getD visited p false ≡ member p (r .visited)
