@@ -14,7 +14,7 @@ use lib.Ieee.Fits.{inf-fits, add-fits}
 use lib.ListN.{length, length-append}
 use Rattle.lists.specs.Lists.{every, any, last, isEmpty}
 use Rattle.lists.proofs.Collect.{foldl-snoc}
-use Rattle.lists.proofs.Tests.{or-false, both, and-both, and-false, every-append, every-snoc, every-more}
+use Rattle.lists.proofs.Tests.{or-false, or-true, both, and-both, and-false, every-append, every-snoc, every-more}
 use Rattle.float_root.specs.Root.{sqrtOf, roundRoot, wholeRoot, rootBy, grow}
 use Rattle.vector.specs.Limits.{maxImaginary}
 use Rattle.vector.specs.Vector.{Vector, Points, dotIn, dotOf}
@@ -46,10 +46,6 @@ parts-or : (a b : Bool) → a || not b ≡ true → not a && b ≡ false
 parts-or true b e = refl
 parts-or false true e = absurd (true≢false (sym e))
 parts-or false false e = refl
-
-or-true : (a : Bool) → a || true ≡ true
-or-true true = refl
-or-true false = refl
 
 -- a, or else what follows from it
 under : (a b d : Bool) → (b ≡ false → d ≡ true) → a || not b ≡ true → a || d ≡ true

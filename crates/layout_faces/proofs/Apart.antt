@@ -30,13 +30,6 @@ use Rattle.layout_faces.proofs.Faces.{face-thin, face-placed}
 
 -- ---- what a loop has found
 
--- what holds below q and at q holds below q + 1
-pub below-next : {P : ℕ → Type 0} (q : ℕ) → ((p : ℕ) → p < q → P p) → P q → (p : ℕ) → p < q + 1 → P p
-below-next {P} q h g p l = elim (eq-or-lt-of-le (last p q l)) [ inl e ↦ subst P (sym e) g | inr k ↦ h p k ]
-  where
-    last : (p q : ℕ) → p < q + 1 → p ≤ q
-    last p q h = omega arith
-
 -- one of three tests that came out true has its reason
 pub of-three : {A : Type 0} (a b c : Bool) → (a ≡ true → A) → (b ≡ true → A) → (c ≡ true → A) → a || b || c ≡ true → A
 of-three true b c f g h e = f refl

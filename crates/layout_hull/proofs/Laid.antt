@@ -14,7 +14,8 @@ use Rattle.lists.specs.Lists.{from, range, between, collect, any, isEmpty, fill
 use Rattle.lists.proofs.Ranges.{range-none, range-snoc, range-between, between-none, between-cons}
 use Rattle.lists.proofs.Collect.{flatMap-snoc, foldl-snoc, collect-some, collect-none}
 use Rattle.lists.proofs.Filled.{set-filled, set-filled-at, length-filled}
-use Rattle.lists.proofs.Tests.{and-true, or-false, any-snoc}
+use Rattle.lists.proofs.Tests.{and-true, and-comm, or-false, or-true, any-snoc}
+use Rattle.lists.proofs.Rows.{set-append-right}
 use Rattle.float_order.specs.Values.{+0}
 use Rattle.vector.specs.Vector.{Points}
 use Rattle.layout_hull.specs.Triplets.{Triplet, Verdict, skip, open-hull, keep, kept, opens, verdicts, tripletsOf, closed}
@@ -29,14 +30,6 @@ sets-filled n z [] l h = rw append-nil refl
 sets-filled n z (v ∷ vs) l h =
     let e : suc (length l) ≡ length (l ++ v ∷ []) = omega (arith, length-append l (v ∷ [])) in
     rw (set-filled n z l v (omega arith), e) (sets-filled n z vs (l ++ v ∷ []) (omega arith) ∙ ap (filled n z) (append-snoc l v vs))
-
-set-append-right : {A : Type 0} (l m : List A) (i : ℕ) (v : A) → set (l ++ m) (length l + i) v ≡ l ++ set m i v
-set-append-right [] m i v =
-    let e : 0 + i ≡ i = omega arith in
-    rw e
-set-append-right {A} (a ∷ l) m i v =
-    let e : suc (length l) + i ≡ suc (length l + i) = omega arith in
-    rw e (ap (λ (r : List A). a ∷ r) (set-append-right l m i v))
 
 -- ---- the numbers
 
@@ -137,16 +130,8 @@ module _ (n : ℕ) (vs : List Verdict) where
       let o : any opens (vs ++ open-hull ∷ []) ≡ true = any-snoc opens vs open-hull ∙ or-true (any opens vs) in
       let s : _≡_ {A = Hull} (record { idx = h .idx; inv = h .inv; count = h .count; over = h .over; enclosed = false })
       (record { idx = laidOf n vs .idx; inv = laidOf n vs .inv; count = laidOf n vs .count; over = laidOf n vs .over; enclosed = false }) = ap shut e in
-      s ∙ rw (collect-none kept vs open-hull refl, o, and-false) refl
+      s ∙ rw (collect-none kept vs open-hull refl, o, and-comm _ false) refl
     where
-      or-true : (a : Bool) → a || true ≡ true
-      or-true true = refl
-      or-true false = refl
-
-      and-false : (a : Bool) → a && false ≡ false
-      and-false true = refl
-      and-false false = refl
-
       shut : Hull → Hull
       shut g = record { idx = g .idx; inv = g .inv; count = g .count; over = g .over; enclosed = false }
 

@@ -12,6 +12,7 @@ use lib.Dec.{ltb}
 use lib.ListN.{length, getD}
 use Rattle.lists.specs.Lists.{from, range, between, collect}
 use Rattle.lists.proofs.Collect.{collect-append}
+use Rattle.lists.proofs.Once.{mem-getD}
 use Rattle.vector.specs.Vector.{Points}
 use Rattle.layout_hull.specs.Triplets.{Triplet, Verdict, skip, open-hull, keep, kept, verdict, verdicts, tripletsOf}
 use Rattle.layout_hull.specs.Meaning.{Before, by-i, by-j, by-k, Keeps, KeptMeaning}
@@ -62,11 +63,6 @@ rising-append (t ∷ l) m h g c = (
   λ u i. ⊎-elim (λ (p : List·Memᴰ u l). h .0 u p) (λ (q : List·Memᴰ u m). c t u (List·Memᴰ·head refl) q) (List·Memᴰ·append-cases l i),
   rising-append l m (h .1) g (λ v w p q. c v w (List·Memᴰ·tail p) q),
 )
-
-mem-getD : (l : List Triplet) (q : ℕ) (d : Triplet) → q < length l → List·Memᴰ (getD l q d) l
-mem-getD [] q d h = absurd (not-suc-le-zero h)
-mem-getD (t ∷ l) zero d h = List·Memᴰ·head refl
-mem-getD (t ∷ l) (suc q) d h = List·Memᴰ·tail (mem-getD l q d (omega arith))
 
 rising-getD : (l : List Triplet) → Rising l → (p q : ℕ) (d : Triplet) → p < q → q < length l → Before (getD l p d) (getD l q d)
 unfolding Rising

@@ -8,6 +8,7 @@ use borrow.Author.Tests.{ltb-true, ltb-false, lt-ltb, le-leb, eq-eqb}
 use lib.Dec.{eqb, ltb, leb}
 use lib.ListN.{length, getD, length-append}
 use Rattle.lists.specs.Lists.{every, any, last}
+use Rattle.lists.proofs.Once.{mem-every}
 use Rattle.lists.proofs.Tests.{every-append, every-snoc, every-at, neither}
 use Rattle.vector.specs.Vector.{Points, inverseRowsOf}
 use Rattle.layout_hull.specs.Triplets.{Triplet, tripletsOf, inverseOf}
@@ -23,11 +24,6 @@ use Rattle.layout_record.specs.Shape.{numbers}
 
 -- ---- tests of all elements
 
-every-members : {A : Type 0} (f : A → Bool) (l : List A) → ((a : A) → List·Memᴰ a l → f a ≡ true) → every f l ≡ true
-unfolding every
-every-members f [] h = refl
-every-members f (a ∷ l) h = rw (h a (List·Memᴰ·head refl)) (every-members f l (λ b m. h b (List·Memᴰ·tail m)))
-
 pub every-flatMap : {A B : Type 0} (f : B → Bool) (g : A → List B) (l : List A) → every f (flatMap g l) ≡ every (λ a. every f (g a)) l
 unfolding every flatMap
 every-flatMap f g [] = refl
@@ -41,7 +37,7 @@ module _ (pts : Points) where
   unfolding every
   numbers-low =
       every-flatMap (λ p. ltb p (length pts)) numbers (tripletsOf pts)
-      ∙ every-members (λ t. every (λ p. ltb p (length pts)) (numbers t)) (tripletsOf pts)
+      ∙ mem-every (λ t. every (λ p. ltb p (length pts)) (numbers t)) (tripletsOf pts)
       (λ t m.
       let k = kept-meaning pts .only t m in
       rw (
@@ -54,7 +50,7 @@ module _ (pts : Points) where
   pub inverses-nine : every (λ t. eqb (length (t .inv)) 9) (tripletsOf pts) ≡ true
   unfolding inverseOf inverseRowsOf
   inverses-nine =
-      every-members (λ t. eqb (length (t .inv)) 9) (tripletsOf pts)
+      mem-every (λ t. eqb (length (t .inv)) 9) (tripletsOf pts)
       (λ t m.
       let k = kept-meaning pts .only t m in
       eq-eqb (length (t .inv)) 9 (ap (λ (u : Triplet). length (u .inv)) (verdict-own pts (t .i) (t .j) (t .k) t (k .verdict-keeps))))

@@ -1,8 +1,9 @@
 -- Laws of `from`, `range` and `between`: their lengths, their elements, one number more at either end. Each goes by the count of numbers. Assumes nothing.
 use Prim.Native.Nat.{ℕ, zero, suc, _+_, _-_, _≤_, _<_}
-use mathlib.Core.Path.{_≡_, refl, sym, ap, _∙_}
+use mathlib.Core.Path.{_≡_, refl, sym, ap, _∙_, subst}
+use mathlib.Core.Logic.{inl, inr}
 use mathlib.Core.List.{List, [], _∷_, _++_, map, map-append}
-use native.Mathlib.Nat.{add-zero, sub-zero, not-suc-le-zero}
+use native.Mathlib.Nat.{add-zero, eq-or-lt-of-le, sub-zero, not-suc-le-zero}
 use native.Mathlib.Numerals.{add-one}
 use native.Mathlib.Omega.{arith}
 use lib.ListN.{length, getD, take, drop, length-map, length-drop}
@@ -54,6 +55,13 @@ range-snoc n =
 pub getD-range : (n i d : ℕ) → i < n → getD (range n) i d ≡ i
 unfolding range
 getD-range n i d h = getD-from 0 n i d h ∙ omega arith
+
+-- what holds below q and at q holds below q + 1
+pub below-next : {P : ℕ → Type 0} (q : ℕ) → ((p : ℕ) → p < q → P p) → P q → (p : ℕ) → p < q + 1 → P p
+below-next {P} q h g p l = elim (eq-or-lt-of-le (last p q l)) [ inl e ↦ subst P (sym e) g | inr k ↦ h p k ]
+  where
+    last : (p q : ℕ) → p < q + 1 → p ≤ q
+    last p q h = omega arith
 
 -- ---- a .. b - 1
 

@@ -2,13 +2,14 @@
 use Prim.Native.Nat.{ℕ, _+_, _*_, _≤_, _<_}
 use mathlib.Core.Path.{_≡_, refl, sym, _∙_}
 use mathlib.Core.Bool.{Bool, true, false, _||_}
-use mathlib.Core.Logic.{_⊎_, inl, inr, ⊎-elim}
+use mathlib.Core.Logic.{inl, inr, ⊎-elim}
 use native.Mathlib.Nat.{mul-right-comm, mul-lt-mul-of-pos-right, mul-le-mul-right, mul-pos, lt-of-mul-lt-mul-right, eq-zero-or-pos}
 use native.Mathlib.Omega.{arith}
 use lib.Ieee.{Float, nan, inf, fin, below, up, down, isNan, lt}
 use lib.Ieee.Fits.{down-pos}
 use lib.Ieee.Positive.{first-pos}
 use borrow.Author.Tests.{ltb-true, ltb-false, lt-ltb}
+use Rattle.lists.proofs.Tests.{either}
 use Rattle.angle_sort.proofs.Angles.{float-lt-asym}
 
 -- ---- y is not above g, and x is above g: x is above y, if y is a number
@@ -113,11 +114,7 @@ nan-not-above (fin s m d) (inf t) e = cc
 nan-not-above (fin s m d) (fin t n k) e = cc
 
 pub not-above : (g y x : Float) → lt g y ≡ false → lt g x ≡ true → lt x y ≡ false
-not-above g y x h k = ⊎-elim (λ n. nan-not-above x y n) (λ l. float-lt-asym y x l) (split (isNan y) (lt y x) (lt-over g y x h k))
-  where
-    split : (a b : Bool) → a || b ≡ true → (a ≡ true) ⊎ (b ≡ true)
-    split true b e = inl refl
-    split false b e = inr e
+not-above g y x h k = ⊎-elim (λ n. nan-not-above x y n) (λ l. float-lt-asym y x l) (either (isNan y) (lt y x) (lt-over g y x h k))
 
 -- what is not above x, a number that is not above g, is not above g
 pub not-over : (g x y : Float) → isNan x ≡ false → lt g x ≡ false → lt x y ≡ false → lt g y ≡ false

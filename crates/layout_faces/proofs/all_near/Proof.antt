@@ -8,7 +8,7 @@ use borrow.Author.Needs.{needs}
 use lib.ListN.{getD}
 use lib.Ieee.{nan}
 use Rattle.layout_faces.specs.Inner.Margin.{Near, NearIn}
-use Rattle.layout_faces.proofs.Apart.{below-next}
+use Rattle.lists.proofs.Ranges.{below-next}
 use Rattle.layout_faces.proofs.all_near.Statement.{statement}
 use Rattle.layout_faces.proofs.all_near.Tie as tie
 
