@@ -3,7 +3,7 @@
 use driver::boundary::{self, Record, Session};
 use driver::records::{arrays, other_part, session_arrays, HEAD, PAIR_BYTES};
 use oracle::layout_line::{Layout, Words};
-use oracle::layouts::{opened, triples};
+use oracle::layouts::{opened, triples, Opened};
 use oracle::made_records;
 use oracle::random::Random;
 use oracle::random_layouts::draw;
@@ -48,6 +48,20 @@ fn filled_record(r: &mut Random) -> Record {
 /// What the imaginary count holds before a call. Origin: above every count.
 const BEFORE: usize = 1_000;
 
+/// Whether the layout was accepted, by a call that answered with this number and left this imaginary count.
+fn answered(call: &str, given: &Opened, told: (u32, usize)) -> Result<bool, String> {
+    let accepted = given.refusal == 0;
+    let imaginary = if accepted { given.imaginary } else { BEFORE };
+    let expected = (u32::from(given.refusal), imaginary);
+    if told == expected {
+        return Ok(accepted);
+    }
+    let (number, left) = told;
+    Err(format!(
+        "{call} answers {number} and {left}, expected {expected:?}"
+    ))
+}
+
 /// `new` and `open` on one layout: open's number, or what differs. Beside a refusal every lent place keeps its bits.
 fn openings(r: &mut Random, layout: &Layout, sources: usize) -> Result<u32, String> {
     let (numbers, lfe) = (&layout.numbers[..], &layout.lfe[..]);
@@ -55,16 +69,7 @@ fn openings(r: &mut Random, layout: &Layout, sources: usize) -> Result<u32, Stri
     let before = filled_record(r);
     let (mut ours, mut imaginary) = (before.clone(), BEFORE);
     let number = boundary::new(numbers, lfe, &mut imaginary, &mut ours);
-    let accepted = given.refusal == 0;
-    let expected = (
-        u32::from(given.refusal),
-        if accepted { given.imaginary } else { BEFORE },
-    );
-    if (number, imaginary) != expected {
-        return Err(format!(
-            "new answers {number} and {imaginary}, expected {expected:?}"
-        ));
-    }
+    let accepted = answered("new", &given, (number, imaginary))?;
     let told = if accepted {
         arrays(&given.panner)
     } else {
@@ -77,16 +82,7 @@ fn openings(r: &mut Random, layout: &Layout, sources: usize) -> Result<u32, Stri
     let before = filled(r);
     let (mut ours, mut imaginary) = (before.clone(), BEFORE);
     let number = boundary::open(numbers, lfe, sources, &mut imaginary, &mut ours);
-    let accepted = given.refusal == 0;
-    let expected = (
-        u32::from(given.refusal),
-        if accepted { given.imaginary } else { BEFORE },
-    );
-    if (number, imaginary) != expected {
-        return Err(format!(
-            "open answers {number} and {imaginary}, expected {expected:?}"
-        ));
-    }
+    let accepted = answered("open", &given, (number, imaginary))?;
     let told = if accepted {
         session_arrays(&OracleSession::fresh(given.panner, sources))
     } else {
