@@ -10,6 +10,7 @@ use lib.Ieee.{up, down}
 use lib.Ieee.Fits.{down-pos}
 use lib.Ieee.Nearest.{closest}
 use Rattle.float_widths.specs.Meaning.{apart}
+use Rattle.float_widths.proofs.Grid.{sides, parity}
 use Rattle.demo_decimal.specs.declared.Size.the-variants.{Steps, Large}
 use Rattle.demo_decimal.specs.Decimal.{decimalOf}
 use Rattle.demo_decimal.specs.Meaning.{Nearest, DecimalNearest}
@@ -33,24 +34,6 @@ multiples n k b = go (ltb n k) (ltb→lt n k) (nltb→le n k)
       | inl e ↦ inl (sym e)
       | inr h ↦ inr (inl (next-up k n b h))
     ]
-
--- a < b, a = b or b < a
-sides : (a b : ℕ) → (a < b) ⊎ ((a ≡ b) ⊎ (b < a))
-sides a b = go (ltb a b) (ltb→lt a b) (nltb→le a b)
-  where
-    go : (x : Bool) → (T x → a < b) → (T (not x) → b ≤ a) → (a < b) ⊎ ((a ≡ b) ⊎ (b < a))
-    go true l g = inl (l tt)
-    go false l g = elim (eq-or-lt-of-le (g tt)) [
-      | inl e ↦ inr (inl (sym e))
-      | inr h ↦ inr (inr h)
-    ]
-
-parity : (w : ℕ) → (w % 2 ≡ 0) ⊎ (w % 2 ≡ 1)
-parity w = elim (sides (w % 2) 1) [
-  | inl h ↦ inl (omega arith)
-  | inr (inl h) ↦ inr h
-  | inr (inr h) ↦ inr (omega arith)
-]
 
 same-multiple : (n k b : ℕ) → n ≡ k → n * b ≡ k * b
 same-multiple n k b e = ap (λ (x : ℕ). x * b) e

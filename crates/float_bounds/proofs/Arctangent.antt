@@ -13,8 +13,9 @@ use lib.Ieee.Scale.{overflow}
 use Rattle.float_order.specs.Values.{+0, 1·0, signBit}
 use Rattle.float_sine.specs.Pi.{halfPi}
 use Rattle.float_arctangent.specs.Arctangent.{8·0, halvedOf, eightfoldOf, atanOf, ratioOf, firstQuadrantOf, withSignOfX, withSignOfY, atan2Of}
+use Rattle.float_widths.proofs.Grid.{zero-is}
 use Rattle.float_bounds.proofs.Units.{Val, add-round, div-round}
-use Rattle.float_bounds.proofs.Held.{Held, held, zero-is}
+use Rattle.float_bounds.proofs.Held.{Held, held}
 use Rattle.float_bounds.proofs.Size.{Most, Mag, Between, mag-of, mag-neg, mag-cond, most-more, round-most, round-between, times-most, square-most, rest-most, div-most}
 use Rattle.float_bounds.proofs.Compare.{abs-val, le-val, not-le-val}
 use Rattle.float_bounds.proofs.Root.{sqrt-val}

@@ -13,12 +13,18 @@ use lib.Ieee.Order.{le-of-values}
 use lib.Ieee.Positive.{first-pos}
 use lib.Ieee.Scale.{finite}
 use Rattle.float_order.specs.Values.{+0, abs}
-use Rattle.float_widths.proofs.Grid.{le-or-lt}
+use Rattle.float_widths.proofs.Grid.{le-or-lt, zero-is}
 use Rattle.float_bounds.proofs.Units.{Val, val-finite, own-units, left, right}
-use Rattle.float_bounds.proofs.Held.{zero-is}
 use Rattle.float_bounds.proofs.Size.{Mag, Most, Between, mag-of, most-sign}
 
 -- ---- values from 0 on
+
+-- a / e < b / d, where these are X / L and Y / L
+pub cross-lt : (a e b d X Y L : ℕ) → a * L ≡ X * e → b * L ≡ Y * d → X * (e * d) < Y * (e * d) → a * d * L < b * e * L
+cross-lt a e b d X Y L p q h =
+    let x : a * L * d ≡ X * e * d = ap (λ (z : ℕ). z * d) p in
+    let y : b * L * e ≡ Y * d * e = ap (λ (z : ℕ). z * e) q in
+    omega arith
 
 module _ (f : Format) where
   lt-val-of : (x y : Float) {X Y : ℕ} → Val f x false X → Val f y false Y → T (lt x y) → X < Y
@@ -48,13 +54,7 @@ module _ (f : Format) where
   lt-of-val (fin true m e) (fin t n d) v w h = absurd (true≢false (v .has .0))
   lt-of-val (fin false m e) (fin true n d) v w h = absurd (true≢false (w .has .0))
   lt-of-val (fin false m e) (fin false n d) {X} {Y} v w h =
-      lt→ltb (m * up e * down d) (n * up d * down e) (lt-of-mul-lt-mul-right (2 ^ low f) (go (m * up e) (down e) (n * up d) (down d) X Y (2 ^ low f) (v .has .1) (w .has .1) (mul-lt-mul-of-pos-right h (mul-pos (down-pos e) (down-pos d)))))
-    where
-      go : (a e b d X Y L : ℕ) → a * L ≡ X * e → b * L ≡ Y * d → X * (e * d) < Y * (e * d) → a * d * L < b * e * L
-      go a e b d X Y L p q h =
-          let x : a * L * d ≡ X * e * d = ap (λ (z : ℕ). z * d) p in
-          let y : b * L * e ≡ Y * d * e = ap (λ (z : ℕ). z * e) q in
-          omega arith
+      lt→ltb (m * up e * down d) (n * up d * down e) (lt-of-mul-lt-mul-right (2 ^ low f) (cross-lt (m * up e) (down e) (n * up d) (down d) X Y (2 ^ low f) (v .has .1) (w .has .1) (mul-lt-mul-of-pos-right h (mul-pos (down-pos e) (down-pos d)))))
 
 module _ {f : Format} {x y : Float} {X Y : ℕ} (v : Val f x false X) (w : Val f y false Y) where
   pub lt-val : T (lt x y) → X < Y

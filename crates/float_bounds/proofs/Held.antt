@@ -16,7 +16,7 @@ use lib.Ieee.Nearest.{closest, closest-mono, nearest-ge, div-mono}
 use lib.Ieee.Order.{drop, kept}
 use lib.Ieee.Scale.{grid, overflow}
 use Rattle.float_order.proofs.Laws.{pow-back}
-use Rattle.float_widths.proofs.Grid.{units-size}
+use Rattle.float_widths.proofs.Grid.{units-size, on-grid}
 use Rattle.float_bounds.proofs.Units.{Val, round-Val}
 
 -- ---- private in lib.Ieee.Order, so written again here
@@ -118,32 +118,5 @@ grid-numbers f m n h =
     grid-mono (prec f) (m * 2 ^ low f) (2 ^ low f) (n * 2 ^ low f) (2 ^ low f) (two-le-pos (prec f) (two f)) (pow-pos (low f)) (pow-pos (low f)) (mul-le-mul-right (2 ^ low f) (mul-le-mul-right (2 ^ low f) h))
 
 -- ---- a value that the format holds, in smallest values
-place : (f : Format) (m y : ℕ) (e : ℤ) → m < 2 ^ prec f → down e ≤ 2 ^ low f → m * up e * 2 ^ low f ≡ y * down e → Held f y
-place f m y (pos a) h d v = record { q = m; j = a + low f; few = le-of-lt h; is = sym (mul-one y) ∙ sym v ∙ mul-assoc m (2 ^ a) (2 ^ low f) ∙ ap (λ (x : ℕ). m * x) (sym (pow-add 2 a (low f))) }
-place f m y (negsuc a) h d v =
-    let l : suc a ≤ low f = pow-back (suc a) (low f) d in record {
-      q = m;
-      j = low f - suc a;
-      few = le-of-lt h;
-      is = eq-of-mul-eq-mul-right (2 ^ suc a) (pow-pos (suc a)) y (m * 2 ^ (low f - suc a))
-          (sym v ∙ ap (λ (x : ℕ). x * 2 ^ low f) (mul-one m) ∙ ap (λ (x : ℕ). m * x) (ap (λ (x : ℕ). 2 ^ x) (sym (back (low f) (suc a) l)) ∙ pow-add 2 (low f - suc a) (suc a)) ∙ sym (mul-assoc m (2 ^ (low f - suc a)) (2 ^ suc a)));
-    }
-
-pub zero-is : (y d : ℕ) → 0 < d → y * d ≡ 0 → y ≡ 0
-zero-is y d p e = elim (eq-zero-or-pos y) [ inl z ↦ z | inr z ↦ absurd (lt-irrefl 0 (subst (λ (x : ℕ). 0 < x) e (mul-pos z p))) ]
-
 pub fits-held : (f : Format) (v : Float) {s : Bool} {y : ℕ} → T (fits f v) → Val f v s y → Held f y
-unfolding fits
-fits-held f nan h v = absurd (v .has)
-fits-held f (inf t) h v = absurd (v .has)
-fits-held f (fin t zero e) {s} {y} h v =
-    record { q = 0; j = 0; few = zero-le; is = zero-is y (down e) (down-pos e) (sym (v .has .1) ∙ ap (λ (x : ℕ). x * 2 ^ low f) (zero-mul (up e)) ∙ zero-mul (2 ^ low f)) }
-fits-held f (fin t (suc m) e) {s} {y} h v =
-    let A = eqb (suc m % 2) 1 in
-    let B = ltb (suc m) (2 ^ prec f) in
-    let C = leb (down e) (2 ^ low f) in
-    let D = ltb (suc m * up e) (2 ^ suc (emax f) * down e) in
-    place f (suc m) y e
-    (ltb→lt (suc m) (2 ^ prec f) (and-r A B (and-l (A && B) C (and-l (A && B && C) D h))))
-    (leb→le (down e) (2 ^ low f) (and-r (A && B) C (and-l (A && B && C) D h)))
-    (v .has .1)
+fits-held f v {s} {y} h w = let g = on-grid f v s y h (w .has) in record { q = g .0; j = g .1; few = le-of-lt (g .2); is = g .3 }

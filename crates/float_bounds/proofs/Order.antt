@@ -12,8 +12,9 @@ use lib.Ieee.Fits.{cond-fits, and-i, eq→eqb}
 use lib.Ieee.Scale.{round-same}
 use Rattle.float_order.specs.Values.{+0, 1·0}
 use Rattle.float_order.specs.Order.{maxOf, clampOf}
+use Rattle.float_widths.proofs.Grid.{zero-is}
 use Rattle.float_bounds.proofs.Units.{Val}
-use Rattle.float_bounds.proofs.Held.{held, held-val, zero-is}
+use Rattle.float_bounds.proofs.Held.{held, held-val}
 use Rattle.float_bounds.proofs.Size.{Mag, Most, most-of, most-sign, mag-cond, val-mag}
 use Rattle.float_bounds.proofs.Compare.{FromZero, from-zero, not-lt-val, signed}
 

@@ -13,6 +13,7 @@ use lib.Ieee.Scale.{grid, overflow}
 use Rattle.float_sine.specs.Series.{coefficients, sumOf, factorial}
 use Rattle.float_sine.specs.Sine.{sineCoefficients, cosineCoefficients}
 use Rattle.float_arctangent.specs.Arctangent.{arctangentCoefficients}
+use Rattle.float_widths.proofs.Grid.{parity}
 use Rattle.float_bounds.proofs.Units.{Val, round-Val}
 use Rattle.float_bounds.proofs.Held.{Held, grid-held}
 use Rattle.float_bounds.proofs.Size.{Most, most-sign, mul-most, add-most}
@@ -50,9 +51,6 @@ turned i = elim (parity i) [
   | inr h ↦ ap (λ (k : ℕ). eqb k 1) (even i h) ∙ ap (λ (k : ℕ). not (eqb k 1)) (sym h)
 ]
   where
-    parity : (i : ℕ) → (i % 2 ≡ 0) ⊎ (i % 2 ≡ 1)
-    parity i = elim (eq-zero-or-pos (i % 2)) [ inl z ↦ inl z | inr z ↦ inr (omega arith) ]
-
     odd : (i : ℕ) → i % 2 ≡ 0 → suc i % 2 ≡ 1
     odd i h = omega arith
 

@@ -13,6 +13,7 @@ use lib.Ieee.Nearest.{closest}
 use Rattle.float_root.specs.Root.{grow, rootBy, wholeRoot, roundRoot}
 use Rattle.float_order.proofs.Laws.{is-lt, is-gt, is-eq, drop-is, closest-by, double}
 use Rattle.float_root_digits.proofs.Squares.{sq-lt, sq-suc, sq-twice}
+use Rattle.float_widths.proofs.Grid.{sides}
 
 -- r is the whole part of the root of n
 abbrev pub IsRoot : ℕ → ℕ → Type 0
@@ -81,19 +82,9 @@ both o p (inl a) = a .0 ∙ sym (a .1)
 both o p (inr (inl a)) = a .0 ∙ sym (a .1)
 both o p (inr (inr a)) = a .0 ∙ sym (a .1)
 
-order : (a b : ℕ) → (a < b) ⊎ ((a ≡ b) ⊎ (b < a))
-order a b = elim (le-or-lt a b) [ inl h ↦ elim (eq-or-lt-of-le h) [ inl e ↦ inr (inl e) | inr l ↦ inl l ] | inr h ↦ inr (inr h) ]
-  where
-    le-or-lt : (a b : ℕ) → (a ≤ b) ⊎ (b < a)
-    le-or-lt a b = go (leb a b) (leb→le a b) (nleb→lt a b)
-      where
-        go : (t : Bool) → (T t → a ≤ b) → (T (not t) → b < a) → (a ≤ b) ⊎ (b < a)
-        go true x y = inl (x tt)
-        go false x y = inr (y tt)
-
 -- t is the middle: g above q * (2 * g); p is what root has above q * (2 * g)
 middle : (v root rem st t a g p : ℕ) → v ≡ root * root + rem → rem ≤ 2 * root → Sticky rem st → root ≡ a + p → t ≡ a + g → Both (compare v (t * t)) (compare ((2 * p + st) * 2) (2 * (2 * g)))
-middle v root rem st t a g p e h s x y = go (order root t)
+middle v root rem st t a g p e h s x y = go (sides root t)
   where
     st-le : st ≤ 1
     st-le = elim (eq-zero-or-pos rem) [ inl z ↦ let k = s .0 z in omega arith | inr z ↦ let k = s .1 z in omega arith ]
@@ -117,7 +108,7 @@ middle v root rem st t a g p e h s x y = go (order root t)
 
 -- equal factors change no comparison
 compare-scale : (a b c : ℕ) → 0 < c → compare (a * c) (b * c) ≡ compare a b
-compare-scale a b c C = go (order a b)
+compare-scale a b c C = go (sides a b)
   where
     go : (a < b) ⊎ ((a ≡ b) ⊎ (b < a)) → compare (a * c) (b * c) ≡ compare a b
     go (inl l) = is-lt (a * c) (b * c) (mul-lt-mul-of-pos-right l C) ∙ sym (is-lt a b l)

@@ -2,7 +2,7 @@
 use mathlib.Core.Path.{_≡_, refl, sym, ap, _∙_, subst}
 use mathlib.Core.Logic.{_⊎_, inl, inr}
 use Prim.Native.Nat.{ℕ, zero, suc, _+_, _-_, _*_, _/_, _%_, _^_, _≤_, _<_, compare, Ordering, Ordering·lt, Ordering·eq, Ordering·gt}
-use native.Mathlib.Nat.{le-trans, le-of-eq, le-of-lt, lt-irrefl, mul-one, mul-assoc, mul-pos, mul-le-mul-right, eq-of-mul-eq-mul-right, le-div-iff-mul-le, suc-mul, add-mul, eq-zero-or-pos, zero-mul}
+use native.Mathlib.Nat.{le-trans, le-of-eq, le-of-lt, lt-irrefl, mul-one, mul-assoc, mul-pos, mul-le-mul-right, eq-of-mul-eq-mul-right, le-div-iff-mul-le, suc-mul, add-mul, eq-zero-or-pos, eq-or-lt-of-le, zero-mul}
 use native.Mathlib.Omega.{arith}
 use mathlib.Core.Bool.{Bool, true, false, not, cond, _&&_}
 use lib.IntN.{ℤ, pos, negsuc}
@@ -16,6 +16,23 @@ use lib.Ieee.Exact.{HasValue, odd-sign}
 use Rattle.float_order.specs.Values.{signBit}
 use Rattle.float_order.proofs.Laws.{pow-back, toBits-units, too-large}
 use Rattle.float_order.proofs.Values.{odd-signed}
+
+-- ---- whole numbers
+pub le-or-lt : (a b : ℕ) → (a ≤ b) ⊎ (b < a)
+le-or-lt a b = go (leb a b) (leb→le a b) (nleb→lt a b)
+  where
+    go : (t : Bool) → (T t → a ≤ b) → (T (not t) → b < a) → (a ≤ b) ⊎ (b < a)
+    go true x y = inl (x tt)
+    go false x y = inr (y tt)
+
+pub sides : (a b : ℕ) → (a < b) ⊎ ((a ≡ b) ⊎ (b < a))
+sides a b = elim (le-or-lt a b) [ inl h ↦ elim (eq-or-lt-of-le h) [ inl e ↦ inr (inl e) | inr l ↦ inl l ] | inr h ↦ inr (inr h) ]
+
+pub zero-is : (y d : ℕ) → 0 < d → y * d ≡ 0 → y ≡ 0
+zero-is y d p e = eq-of-mul-eq-mul-right d p y 0 (e ∙ sym (zero-mul d))
+
+pub parity : (n : ℕ) → (n % 2 ≡ 0) ⊎ (n % 2 ≡ 1)
+parity n = elim (eq-zero-or-pos (n % 2)) [ inl z ↦ inl z | inr z ↦ inr (omega arith) ]
 
 -- ---- a value of the format, in its smallest values: m * 2 ^ j with an m of prec digits
 abbrev pub OnGrid : Format → ℕ → Type 0
@@ -38,9 +55,6 @@ on-grid f nan s y h v = absurd v
 on-grid f (inf t) s y h v = absurd v
 on-grid f (fin t zero e) s y h v =
     (0, 0, pow-pos (prec f), zero-is y (down e) (down-pos e) (sym (v .1) ∙ ap (λ (x : ℕ). x * 2 ^ low f) (zero-mul (up e)) ∙ zero-mul (2 ^ low f)))
-  where
-    zero-is : (y d : ℕ) → 0 < d → y * d ≡ 0 → y ≡ 0
-    zero-is y d p e = elim (eq-zero-or-pos y) [ inl z ↦ z | inr z ↦ absurd (lt-irrefl 0 (subst (λ (x : ℕ). 0 < x) e (mul-pos z p))) ]
 on-grid f (fin t (suc m) e) s y h v =
     let A = eqb (suc m % 2) 1 in
     let B = ltb (suc m) (2 ^ prec f) in
@@ -52,13 +66,6 @@ on-grid f (fin t (suc m) e) s y h v =
     (v .1)
 
 -- ---- between q * 2 ^ k and the next multiple of 2 ^ k the format has no value, where q has all its digits or k is 0
-pub le-or-lt : (a b : ℕ) → (a ≤ b) ⊎ (b < a)
-le-or-lt a b = go (leb a b) (leb→le a b) (nleb→lt a b)
-  where
-    go : (t : Bool) → (T t → a ≤ b) → (T (not t) → b < a) → (a ≤ b) ⊎ (b < a)
-    go true x y = inl (x tt)
-    go false x y = inr (y tt)
-
 pub gap : (f : Format) (q k y : ℕ) → (0 < k → 2 ^ (prec f - 1) ≤ q) → OnGrid f y → (y ≤ q * 2 ^ k) ⊎ (suc q * 2 ^ k ≤ y)
 gap f q k y lo g = elim (le-or-lt k (g .1)) [
   | inl h ↦

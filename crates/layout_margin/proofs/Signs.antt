@@ -12,7 +12,7 @@ use lib.Ieee.Fits.{down-pos}
 use lib.Ieee.Scale.{round-same}
 use Rattle.float_widths.proofs.Grid.{le-or-lt}
 use Rattle.float_bounds.proofs.Units.{Val, left, right, taken, opened-add, add-round, add-unlike, add-rest, add-turned}
-use Rattle.float_bounds.proofs.Compare.{not-lt-val}
+use Rattle.float_bounds.proofs.Compare.{not-lt-val, cross-lt}
 
 -- ---- the two sides of a number with a sign
 
@@ -95,19 +95,13 @@ add-under-of f (fin u m e) (fin r n d) {X} {Y} v w h =
     opened-add f u m e r n d
     ∙ ap₂ (λ (i j : Bool). sum f i (a * down d) j (b * down e) (down e * down d)) (v .has .0) (w .has .0)
     ∙ go (a * down d) (b * down e) (down e * down d) (ltb (a * down d) (b * down e))
-    (lt→ltb (a * down d) (b * down e) (lt-of-mul-lt-mul-right L (order a (down e) b (down d) X Y L (v .has .1) (w .has .1) (mul-lt-mul-of-pos-right h (mul-pos (down-pos e) (down-pos d))))))
+    (lt→ltb (a * down d) (b * down e) (lt-of-mul-lt-mul-right L (cross-lt a (down e) b (down d) X Y L (v .has .1) (w .has .1) (mul-lt-mul-of-pos-right h (mul-pos (down-pos e) (down-pos d))))))
     ∙ round-same f true (b * down e - a * down d) (down e * down d) (Y - X) L (mul-pos (down-pos e) (down-pos d)) (pow-pos (low f))
     (taken b (down d) a (down e) Y X L (w .has .1) (v .has .1) ∙ ap (λ (z : ℕ). (Y - X) * z) (mul-comm (down d) (down e)))
   where
     go : (a b c : ℕ) (x : Bool) → T x → cond x (round f true (b - a) c) (round f (false && ltb b a) (a - b) c) ≡ round f true (b - a) c
     go a b c true t = refl
     go a b c false t = absurd t
-
-    order : (a e b d X Y L : ℕ) → a * L ≡ X * e → b * L ≡ Y * d → X * (e * d) < Y * (e * d) → a * d * L < b * e * L
-    order a e b d X Y L p q h =
-        let l = left a e b d X Y L p q in
-        let r = right a e b d X Y L p q in
-        omega arith
 
 pub record SumOf (x y : Float) (s : Bool) (X : ℕ) (t : Bool) (Y : ℕ) : Type 0 where
   pub u : Bool

@@ -17,6 +17,7 @@ use Rattle.float_sine.specs.Sine.{sin32Of, sinOf, sineBy, mod4, reduced, quarte
 use Rattle.float_sine.specs.Series.{coefficients, factorial, sumOf}
 use Rattle.row_planar.specs.PlanarRow.{halfPi32, spreadGain}
 use Rattle.lists.proofs.Tests.{and-left}
+use Rattle.float_widths.proofs.Grid.{zero-is}
 
 -- a zero, rounded
 round-zero : (s : Bool) (den : ℕ) → 0 < den → round binary32 s 0 den ≡ fin s 0 (pos 0)
@@ -36,9 +37,6 @@ pub record Zero (x : Float) : Type 0 where
   pub e : ℤ
   pub is : x ≡ fin s 0 e
 
-no-digits : (m u : ℕ) → 0 < u → m * u ≡ 0 → m ≡ 0
-no-digits m u h e = eq-of-mul-eq-mul-right u h m 0 (e ∙ sym (zero-mul u))
-
 pub zero-of : (x : Float) → eq x +0 ≡ true → Zero x
 unfolding eq
 zero-of nan h = absurd (true≢false (sym h))
@@ -46,7 +44,7 @@ zero-of (inf s) h = absurd (true≢false (sym h))
 zero-of (fin s m e) h =
     let p : m * up e * 1 ≡ 0 * 1 * down e = eqb-true (m * up e * 1) (0 * 1 * down e) (and-left (eqb (m * up e * 1) (0 * 1 * down e)) (Bool·beq s false || eqb (m * up e * 1) 0) h) in
     let q : m * up e ≡ 0 = sym (mul-one (m * up e)) ∙ p ∙ rw (zero-mul 1, zero-mul (down e)) refl in
-    record { s = s; e = e; is = ap (λ (k : ℕ). fin s k e) (no-digits m (up e) (up-pos e) q) }
+    record { s = s; e = e; is = ap (λ (k : ℕ). fin s k e) (zero-is m (up e) (up-pos e) q) }
 
 twice : (a s : Bool) → unlike (unlike a s) s ≡ unlike (unlike a false) false
 twice true true = refl
