@@ -5,7 +5,7 @@ use mathlib.Core.Bool.{false}
 use lib.Dec.{lit≤, lit<}
 use lib.Ieee.{Float, binary32, binary64, ofBits}
 use Rattle.float_order.specs.Remainder.{remEuclidOf}
-use Rattle.float_sine.specs.Pi.{twoPi}
+use Rattle.float_sine.specs.Pi.{twoPi, tau32}
 use Rattle.float_bounds.proofs.Units.{Val}
 use Rattle.float_bounds.proofs.Held.{held}
 use Rattle.float_bounds.proofs.Size.{Mag}
@@ -20,9 +20,9 @@ rem-two-pi h = rem-euclid (h .val) two-val (lit< tt) two-held (lit< tt)
 abbrev pub tau : ℕ
 tau = 13176795 * 2 ^ 128
 
-pub tau-val : Val binary32 (ofBits binary32 0x40c9_0fdb) false tau
+pub tau-val : Val binary32 tau32 false tau
 unfolding ofBits
 tau-val = record { has = (refl, refl) }
 
-pub rem-tau : {x : Float} {A : ℕ} → Mag binary32 x A → FromZero binary32 (remEuclidOf binary32 x (ofBits binary32 0x40c9_0fdb)) tau
+pub rem-tau : {x : Float} {A : ℕ} → Mag binary32 x A → FromZero binary32 (remEuclidOf binary32 x tau32) tau
 rem-tau h = rem-euclid (h .val) tau-val (lit< tt) (held binary32 13176795 128 (lit≤ tt)) (lit< tt)

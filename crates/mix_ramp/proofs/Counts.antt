@@ -14,9 +14,9 @@ use lib.Ieee.Exact.{HasValue}
 use lib.Ieee.Back.{round-whole}
 use lib.Ieee.Scale.{round-same}
 use Rattle.lists.specs.Lists.{range, from}
-use Rattle.mix_ramp.specs.Ramp.{count32}
 use Rattle.mix_eights.specs.Inner.Eights.{8·0}
 use Rattle.lists.proofs.Ranges.{getD-map-range, same-places}
+use Rattle.float_order.specs.Values.{count32}
 
 cross : (X Y E D a b : ℕ) → X * 1 ≡ a * E → Y * 1 ≡ b * D → (X * D + Y * E) * 1 ≡ (a + b) * (E * D)
 cross X Y E D a b p q =

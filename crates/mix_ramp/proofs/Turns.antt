@@ -9,11 +9,12 @@ use lib.ListN.{length, getD, set, drop}
 use lib.Seq.{drop-cons, set-at, getD-at, append-snoc, getD-set-other}
 use lib.Ieee.{Float, nan, binary32, add, sub, mul, div, eq}
 use Rattle.lists.specs.Lists.{from, range, between}
-use Rattle.mix_ramp.specs.Ramp.{count32, rampGain, rampAddOf}
+use Rattle.mix_ramp.specs.Ramp.{rampGain, rampAddOf}
 use Rattle.mix_eights.specs.Inner.Eights.{sampleOf}
 use Rattle.mix_ramp.specs.Inner.Turns.{steadyTurn, rampTurn}
 use Rattle.lists.proofs.Ranges.{range-none, range-snoc, between-none, between-snoc, between-append, range-between, map-range-snoc, length-map-range, getD-map-range}
 use Rattle.lists.proofs.Collect.{foldl-snoc}
+use Rattle.float_order.specs.Values.{count32}
 use Rattle.mix_ramp.proofs.Counts.{countsFrom}
 
 -- ---- any turn

@@ -3,14 +3,10 @@
 use Prim.Native.Nat.{ℕ, _+_, min, max}
 use mathlib.Core.Bool.{cond}
 use mathlib.Core.List.{List, _++_, map}
-use lib.IntN.{pos}
 use lib.ListN.{length, getD, drop}
-use lib.Ieee.{Float, nan, binary32, add, sub, mul, div, eq, ofInt}
+use lib.Ieee.{Float, nan, binary32, add, sub, mul, div, eq}
+use Rattle.float_order.specs.Values.{count32}
 use Rattle.lists.specs.Lists.{range}
-
--- a whole number as a 32-bit float, rounded once
-abbrev pub count32 : ℕ → Float
-count32 n = ofInt binary32 (pos n)
 
 -- the gain of sample i of n: g0 + step·(i + 1), step = (g1 − g0) ÷ n; g1 where the two are equal
 unfoldable pub rampGain : ℕ → Float → Float → ℕ → Float

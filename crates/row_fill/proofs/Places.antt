@@ -14,10 +14,10 @@ use Rattle.lists.specs.Lists.{isEmpty, part}
 use Rattle.lists.proofs.Tests.{and-left, and-right, empty-length}
 use Rattle.lists.proofs.Collect.{foldl-snoc}
 use Rattle.row_fill.proofs.Folds.{fold-none, fold-more}
-use Rattle.float_order.specs.Values.{+0}
+use Rattle.float_order.specs.Values.{+0, count32}
 use Rattle.float_root.specs.Root.{sqrtOf}
 use Rattle.float_order.specs.Order.{maxOf}
-use Rattle.row_planar.specs.PlanarRow.{addAt, count32}
+use Rattle.row_planar.specs.PlanarRow.{addAt}
 use Rattle.row_fill.specs.Inner.Filling.{toReal, toImag, isReal, realPoints, imagPoints, addEach, sharedBy, sharedAt, sharedOut, placed}
 
 -- ---- gains added in the places of slots

@@ -9,13 +9,13 @@ use lib.Dec.{ltb}
 use lib.ListN.{length, getD, set, replicate}
 use lib.Ieee.{Float, nan, binary32, add, mul, div, lt, ofBits}
 use Rattle.lists.specs.Lists.{range, isEmpty, part}
-use Rattle.float_order.specs.Values.{+0, 1·0}
+use Rattle.float_order.specs.Values.{+0, 1·0, count32}
 use Rattle.float_order.specs.Order.{maxOf, minOf, squareOf}
 use Rattle.float_root.specs.Root.{sqrtOf}
 use Rattle.vector.specs.Vector.{Vector, Points, dotIn, dirVecOf}
 use Rattle.layout_hull.specs.Triplets.{Triplet}
 use Rattle.layout_record.specs.Shape.{HullShape}
-use Rattle.row_planar.specs.PlanarRow.{addAt, count32}
+use Rattle.row_planar.specs.PlanarRow.{addAt}
 use Rattle.row_greatest.specs.Greatest.{firstGreatest}
 use Rattle.vector.specs.Limits.{maxImaginary}
 

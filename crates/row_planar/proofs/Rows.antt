@@ -9,8 +9,8 @@ use lib.ListN.{length, getD, set, take, drop, replicate, length-replicate, repli
 use lib.Seq.{drop-cons, set-at, set-out, append-snoc, take-suc, length-take-le}
 use lib.Ieee.{Float, nan, binary32, add, div, lt}
 use Rattle.lists.specs.Lists.{isEmpty}
-use Rattle.float_order.specs.Values.{+0}
-use Rattle.row_planar.specs.PlanarRow.{count32, addAt, spreadGain, spreadAt, spread}
+use Rattle.float_order.specs.Values.{+0, count32}
+use Rattle.row_planar.specs.PlanarRow.{addAt, spreadGain, spreadAt, spread}
 use Rattle.lists.proofs.Collect.{foldl-snoc}
 use Rattle.lists.proofs.Tests.{some-taken}
 

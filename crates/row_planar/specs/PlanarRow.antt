@@ -4,33 +4,25 @@
 use Prim.Native.Nat.{ℕ}
 use mathlib.Core.Bool.{Bool, _&&_, not, cond}
 use mathlib.Core.List.{List, foldl}
-use lib.IntN.{pos}
 use lib.ListN.{length, getD, set, replicate}
-use lib.Ieee.{Float, nan, binary32, add, sub, neg, mul, div, lt, le, ofBits, ofInt}
+use lib.Ieee.{Float, nan, binary32, add, sub, neg, mul, div, lt, le, ofBits}
 use Rattle.lists.specs.Lists.{isEmpty, firstThat, last}
-use Rattle.float_order.specs.Values.{+0, 1·0, abs}
+use Rattle.float_order.specs.Values.{+0, 1·0, abs, count32}
 use Rattle.float_order.specs.Order.{maxOf, clampOf, squareOf, powi4Of}
 use Rattle.float_order.specs.Remainder.{remEuclidOf}
 use Rattle.float_root.specs.Root.{sqrtOf}
+use Rattle.float_sine.specs.Pi.{tau32}
 use Rattle.float_sine.specs.Sine.{sin32Of, cos32Of}
 use Rattle.layout_planar.specs.declared.Law.{Law}
 use Rattle.layout_planar.specs.declared.Law.the-variants.{Inverse, Crossfade}
 use Rattle.layout_planar.specs.declared.PlanarPair.{PlanarPair}
 use Rattle.layout_planar.specs.Planar.{noPair}
 
--- a whole number as a 32-bit float, rounded once
-abbrev pub count32 : ℕ → Float
-count32 n = ofInt binary32 (pos n)
-
 -- ---- constants in 32 bits
 
 -- PLANAR_MAX_ELEVATION, 0.0873. Origin: vbap.rs line 52.
 abbrev pub planarMaxElevation : Float
 planarMaxElevation = ofBits binary32 0x3db2_ca58
-
--- TAU, 6.2831855. Origin: std::f32::consts::TAU, vbap.rs line 464.
-abbrev pub tau32 : Float
-tau32 = ofBits binary32 0x40c9_0fdb
 
 -- FRAC_PI_2, 1.5707964. Origin: std::f32::consts::FRAC_PI_2, vbap.rs lines 90, 91 and 488.
 abbrev pub halfPi32 : Float

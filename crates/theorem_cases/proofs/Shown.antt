@@ -27,7 +27,7 @@ use Rattle.layout_record.specs.Panner.{kindIn, monoIn, pairsIn, slotsIn, hullIn
 use Rattle.layout_record.specs.Malformed.{countsOver, usedSlots, usedPoints, numbersOut, malformedOf}
 use Rattle.layout_record.specs.declared.VbapPanner.{VbapPanner}
 use Rattle.layout_new.specs.Layout.{outputsOf, speakerAt, active, levelAt, level, shapeOf, layoutOf, pannerOf}
-use Rattle.row_planar.specs.PlanarRow.{Two, tau32, addAt, rel, contains, chosen, shaped, byCrossfade, byLaw, planarSpread, spread, pairRow, planarRow}
+use Rattle.row_planar.specs.PlanarRow.{Two, addAt, rel, contains, chosen, shaped, byCrossfade, byLaw, planarSpread, spread, pairRow, planarRow}
 use Rattle.row_gains.specs.Gains.{finiteOr0, rowIn, rowOf, gainsOf}
 use Rattle.mix_ramp.specs.Ramp.{rampGain, rampAddOf}
 use Rattle.mix_gain.specs.Mixed.{normSqOf, normalizedLerpGainOf}
@@ -39,6 +39,7 @@ use Rattle.session_calls.specs.Session.{malformedBy, malformedSession, numberOf
 use Rattle.session_calls.proofs.Refusals.{on-source}
 use Rattle.lists.proofs.Rows.{getD-fill}
 use Rattle.theorem_take_back.proofs.PlacedBack.{placed-back}
+use Rattle.float_sine.specs.Pi.{tau32}
 use Rattle.theorem_cases.specs.Table.{F, Table}
 
 -- ---- F as an active speaker in slot i: level, and straight ahead

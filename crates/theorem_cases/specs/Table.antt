@@ -14,13 +14,13 @@ use Rattle.layout_record.specs.Shape.{silent, mono, planar}
 use Rattle.layout_record.specs.Malformed.{malformedOf}
 use Rattle.layout_record.specs.declared.VbapPanner.{VbapPanner}
 use Rattle.layout_new.specs.Layout.{active, layoutOf, pannerOf}
-use Rattle.row_planar.specs.PlanarRow.{tau32}
 use Rattle.row_gains.specs.Gains.{rowOf, gainsOf}
 use Rattle.mix_ramp.specs.Ramp.{rampAddOf}
 use Rattle.mix_gain.specs.Mixed.{normalizedLerpGainOf}
 use Rattle.session_history.specs.Calls.{place, takeBack}
 use Rattle.session_open.specs.Open.{fresh}
 use Rattle.session_calls.specs.Session.{numberOf, afterAll}
+use Rattle.float_sine.specs.Pi.{tau32}
 
 -- position F is (0, 0, −1)
 abbrev pub F : List Float

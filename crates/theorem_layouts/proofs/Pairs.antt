@@ -16,7 +16,7 @@ use Rattle.float_order.specs.Values.{abs}
 use Rattle.float_widths.specs.Narrow.{narrowOf}
 use Rattle.float_order.specs.Remainder.{remEuclidOf}
 use Rattle.float_widths.proofs.Grid.{le-or-lt}
-use Rattle.float_sine.specs.Pi.{twoPi}
+use Rattle.float_sine.specs.Pi.{twoPi, tau32}
 use Rattle.float_sine.specs.Sine.{sinOf, cosOf}
 use Rattle.vector.specs.Vector.{z, minor}
 use Rattle.vector.specs.Speakers.{Speaker, slotsOf}
@@ -32,7 +32,7 @@ use Rattle.float_bounds.proofs.Pi.{H, two-val, two-held}
 use Rattle.float_bounds.proofs.Angle.{rem-two-pi}
 use Rattle.float_bounds.proofs.Sine.{sin-mag, cos-mag}
 use Rattle.float_bounds.proofs.Arctangent.{atan2-mag}
-use Rattle.theorem_layouts.specs.Sound.{Within, SoundLaw, SoundPair, pi32, tau32, leastGap, largestInverse}
+use Rattle.theorem_layouts.specs.Sound.{Within, SoundLaw, SoundPair, pi32, leastGap, largestInverse}
 use Rattle.lists.proofs.Each.{Some, each-map, each-unmap, each-both, each-getD, each-collect, each-range}
 use Rattle.lists.proofs.Once.{member-self, once-apart}
 use Rattle.theorem_layouts.proofs.Sorted.{each-sorted, sorted-once, numbersOf}

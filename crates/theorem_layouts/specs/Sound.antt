@@ -20,6 +20,7 @@ use Rattle.layout_record.specs.declared.VbapPanner.{VbapPanner}
 use Rattle.layout_record.specs.Shape.{HullShape, Shape, silent, mono, planar, hull}
 use Rattle.layout_record.specs.Malformed.{usedSlots}
 use Rattle.layout_new.specs.Layout.{outputsOf, layoutOf, pannerOf}
+use Rattle.float_sine.specs.Pi.{tau32}
 
 -- ---- bounds of 32-bit values
 
@@ -28,12 +29,9 @@ pub record Within (b x : Float) : Type 0 where
   pub held : T (fits binary32 x)
   pub most : T (le (abs x) b)
 
--- pi and 2·pi in 32 bits, both rounded up: the bounds of a start and of a gap. Origin: std::f32::consts::PI and TAU.
+-- pi in 32 bits, rounded up: the bound of a start (that of a gap is tau32). Origin: std::f32::consts::PI.
 abbrev pub pi32 : Float
 pi32 = ofBits binary32 0x4049_0fdb
-
-abbrev pub tau32 : Float
-tau32 = ofBits binary32 0x40c9_0fdb
 
 -- 1e-6 in 32 bits, rounded down: the least gap that is not one of coincident speakers. Origin: vbap.rs line 233.
 abbrev pub leastGap : Float

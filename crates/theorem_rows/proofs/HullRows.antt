@@ -15,13 +15,13 @@ use lib.Ieee.Fits.{ofInt-fits}
 use lib.Ieee.Scale.{overflow, finite}
 use Rattle.lists.specs.Lists.{range, isEmpty, part, Each}
 use Rattle.lists.proofs.Parts.{length-part}
-use Rattle.float_order.specs.Values.{+0, 1·0}
+use Rattle.float_order.specs.Values.{+0, 1·0, count32}
 use Rattle.float_order.specs.Order.{maxOf}
 use Rattle.float_root.specs.Root.{sqrtOf}
 use Rattle.vector.specs.Vector.{Vector, dotIn, dirVecOf}
 use Rattle.layout_hull.specs.Triplets.{Triplet}
 use Rattle.layout_record.specs.Shape.{HullShape}
-use Rattle.row_planar.specs.PlanarRow.{addAt, count32}
+use Rattle.row_planar.specs.PlanarRow.{addAt}
 use Rattle.vector.specs.Limits.{maxImaginary}
 use Rattle.row_hull.specs.HullRow.{Aimed, aimed, bestOf, nearestPoint, nearestRow, Filling, give, filling, shared, tripletRow, rowBy, hullRow}
 use Rattle.float_bounds.proofs.Units.{Val}

@@ -7,7 +7,7 @@ use lib.Dec.{T, ltb, ltb→lt}
 use lib.ListN.{length, getD, set, replicate}
 use lib.Ieee.{Float, nan, binary32, add, div, lt}
 use Rattle.lists.specs.Lists.{range, isEmpty, Each}
-use Rattle.float_order.specs.Values.{+0, 1·0}
+use Rattle.float_order.specs.Values.{+0, 1·0, count32}
 use Rattle.float_order.specs.Order.{maxOf, squareOf}
 use Rattle.float_root.specs.Root.{sqrtOf}
 use Rattle.vector.specs.Vector.{dirVecOf}
@@ -15,7 +15,7 @@ use Rattle.layout_planar.specs.declared.PlanarPair.{PlanarPair}
 use Rattle.layout_hull.specs.Triplets.{Triplet}
 use Rattle.layout_record.specs.Shape.{HullShape, Shape, silent, mono, planar, hull}
 use Rattle.layout_record.specs.Malformed.{usedSlots}
-use Rattle.row_planar.specs.PlanarRow.{addAt, count32, leastPairNorm, Two, byLaw, chosen, planarSpread, spreadGain, spreadAt, spread, pairRow, planarRow}
+use Rattle.row_planar.specs.PlanarRow.{addAt, leastPairNorm, Two, byLaw, chosen, planarSpread, spreadGain, spreadAt, spread, pairRow, planarRow}
 use Rattle.vector.specs.Limits.{maxImaginary}
 use Rattle.row_hull.specs.HullRow.{Aimed, bestOf, nearestPoint, nearestRow, Filling, give, filling, shared, scaled, tripletRow, rowBy, hullRow}
 use Rattle.row_gains.specs.Gains.{rowIn}

@@ -2,7 +2,7 @@
 use mathlib.Core.Path.{_∙_, ap}
 use borrow.Author.Needs.{needs}
 use lib.Ieee.{Float, binary32, sub, div}
-use Rattle.mix_ramp.specs.Ramp.{count32}
+use Rattle.float_order.specs.Values.{count32}
 use Rattle.mix_ramp.specs.Inner.Turns.{rampTurn}
 use Rattle.mix_ramp.proofs.Turns.{turns-after, steady-all, ramp-all}
 use Rattle.mix_ramp.proofs.ramp_add.Statement.{statement}

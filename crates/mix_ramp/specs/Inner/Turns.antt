@@ -4,7 +4,7 @@ use mathlib.Core.List.{List}
 use lib.ListN.{getD, set}
 use lib.Ieee.{Float, nan, binary32, add, mul}
 use Rattle.mix_eights.specs.Inner.Eights.{sampleOf}
-use Rattle.mix_ramp.specs.Ramp.{count32}
+use Rattle.float_order.specs.Values.{count32}
 
 -- place i of dst, at one gain and at a moving one
 unfoldable pub steadyTurn : List Float → Float → List Float → ℕ → List Float

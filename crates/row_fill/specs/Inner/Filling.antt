@@ -6,11 +6,11 @@ use lib.Dec.{ltb}
 use lib.ListN.{length, getD, take, replicate}
 use lib.Ieee.{Float, nan, binary32, div, lt}
 use Rattle.lists.specs.Lists.{range, isEmpty, part}
-use Rattle.float_order.specs.Values.{+0}
+use Rattle.float_order.specs.Values.{+0, count32}
 use Rattle.float_order.specs.Order.{maxOf}
 use Rattle.float_root.specs.Root.{sqrtOf}
 use Rattle.vector.specs.Limits.{maxImaginary}
-use Rattle.row_planar.specs.PlanarRow.{addAt, count32}
+use Rattle.row_planar.specs.PlanarRow.{addAt}
 
 -- ---- a gain to a real point's slot, or to an imaginary point's sum
 
