@@ -13,6 +13,8 @@ use Rattle.float_order.specs.Remainder.{remEuclidOf}
 use Rattle.float_root.specs.Root.{sqrtOf}
 use Rattle.float_sine.specs.Pi.{tau32}
 use Rattle.float_sine.specs.Sine.{sin32Of, cos32Of}
+use Rattle.vector.specs.Operations.{Two as Pair, pairDotBy}
+use Rattle.vector.specs.Vector.{floats}
 use Rattle.layout_planar.specs.declared.Law.{Law}
 use Rattle.layout_planar.specs.declared.Law.the-variants.{Inverse, Crossfade}
 use Rattle.layout_planar.specs.declared.PlanarPair.{PlanarPair}
@@ -60,11 +62,10 @@ pub record Two : Type 0 where
 -- the direction times the inverse; nothing below +0
 unfoldable pub byInverse : Float → Float → Float → Float → Float → Two
 byInverse az m0 m1 m2 m3 =
-    let px = sin32Of az in
-    let pz = neg (cos32Of az) in
+    let p : Pair Float = record { x = sin32Of az; z = neg (cos32Of az) } in
     record {
-      ga = maxOf (add binary32 (mul binary32 m0 px) (mul binary32 m1 pz)) +0;
-      gb = maxOf (add binary32 (mul binary32 m2 px) (mul binary32 m3 pz)) +0;
+      ga = maxOf (pairDotBy (floats binary32) (record { x = m0; z = m1 }) p) +0;
+      gb = maxOf (pairDotBy (floats binary32) (record { x = m2; z = m3 }) p) +0;
     }
 
 -- the fraction t of the gap, shaped: t⁴ ÷ (t⁴ + (1 − t)⁴)
