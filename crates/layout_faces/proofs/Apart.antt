@@ -20,8 +20,8 @@ use Rattle.float_bounds.proofs.Compare.{test-mag}
 use Rattle.layout_margin.proofs.Scaled.{L}
 use Rattle.layout_margin.proofs.Heights.{Three}
 use Rattle.layout_margin.proofs.Apart.{well-over, well-under}
-use Rattle.layout_faces.specs.Faces.{leastNormal, eps, others, rawNormal, height, allBelow, allAbove}
-use Rattle.layout_faces.specs.Inner.Steps.{isOther, heightIn, planeOf, sidesOf, turnedBy, faceOf}
+use Rattle.layout_faces.specs.Faces.{leastNormal, eps, others, rawNormal, height, allBelow, allAbove, isOther}
+use Rattle.layout_faces.specs.Inner.Steps.{heightIn, planeOf, sidesOf, turnedBy, faceOf}
 use Rattle.layout_faces.specs.Inner.Margin.{largest, margin, NearIn, levelIn}
 use Rattle.layout_faces.specs.declared.Face.the-variants.{Skip}
 use Rattle.layout_faces.proofs.Reading.{height-in}

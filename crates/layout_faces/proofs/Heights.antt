@@ -10,8 +10,8 @@ use Rattle.lists.proofs.Ranges.{between-none, between-cons, between-append, ran
 use Rattle.lists.proofs.Collect.{filter-append}
 use Rattle.lists.proofs.Tests.{and-false, every-append}
 use Rattle.vector.specs.Vector.{Vector, pointsIn}
-use Rattle.layout_faces.specs.Faces.{eps, others, height, allBelow, allAbove}
-use Rattle.layout_faces.specs.Inner.Steps.{isOther, heightIn, besideOf, planeOf, sidesOf}
+use Rattle.layout_faces.specs.Faces.{eps, others, height, allBelow, allAbove, isOther}
+use Rattle.layout_faces.specs.Inner.Steps.{heightIn, besideOf, planeOf, sidesOf}
 use Rattle.layout_faces.specs.declared.Sides.{Sides}
 use Rattle.layout_faces.proofs.Reading.{height-in}
 

@@ -34,16 +34,22 @@ abbrev pub point : Points → ℕ → Vector
 point pts p = getD pts p []
 
 -- the points but the triple's own
+abbrev pub isOther : ℕ → ℕ → ℕ → ℕ → Bool
+isOther i j k p = not (eqb p i || eqb p j || eqb p k)
+
 unfoldable pub others : ℕ → ℕ → ℕ → ℕ → List ℕ
-others n i j k = filter (λ p. not (eqb p i || eqb p j || eqb p k)) (range n)
+others n i j k = filter (isOther i j k) (range n)
 
 -- how far point p stands over the plane
 unfoldable pub height : Points → Plane → ℕ → Float
 height pts f p = sub binary64 (dotOf (f .nrm) (point pts p)) (f .d)
 
--- 1: the normal of the plane through the triple, before it is scaled, is at least 1e-9 long
 unfoldable pub rawNormal : Vector → Vector → Vector → Vector
 rawNormal a b c = crossOf (lessOf b a) (lessOf c a)
+
+-- 1: the normal of the plane through the triple, before it is scaled, is at least 1e-9 long; not so where the triple is thin
+abbrev pub thin : Vector → Vector → Vector → Bool
+thin a b c = lt (lengthOf (rawNormal a b c)) leastNormal
 
 unfoldable pub planeThrough : Vector → Vector → Vector → Plane
 planeThrough a b c =
@@ -57,6 +63,13 @@ allBelow pts f ps = every (λ p. not (lt eps (height pts f p))) ps
 unfoldable pub allAbove : Points → Plane → List ℕ → Bool
 allAbove pts f ps = every (λ p. not (lt (height pts f p) (neg eps))) ps
 
+abbrev pub oneSided : Points → Plane → List ℕ → Bool
+oneSided pts f ps = allBelow pts f ps || allAbove pts f ps
+
 -- the normal turned outward
 unfoldable pub outward : Bool → Plane → Plane
 outward below f = cond below f (record { nrm = negatedOf (f .nrm); d = neg (f .d) })
+
+-- 3: the outward plane is at least 1e-4 from the origin, on the outer side; not so where it is close
+abbrev pub close : Float → Bool
+close d = lt d leastDistance

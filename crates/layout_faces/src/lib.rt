@@ -5,8 +5,8 @@ ghost use mathlib.Core.Bool.{true};
 ghost use Prim.Native.Nat.{_≤_, _<_};
 ghost use Rattle.lists.specs.Lists.{part};
 ghost use Rattle.vector.specs.Vector.{pointsIn};
-ghost use Rattle.layout_faces.specs.Faces.{others, rawNormal};
-ghost use Rattle.layout_faces.specs.Inner.Steps.{isOther, pointIn, heightIn, besideOf, sidesOf, facing, faceOf};
+ghost use Rattle.layout_faces.specs.Faces.{isOther, others, rawNormal};
+ghost use Rattle.layout_faces.specs.Inner.Steps.{pointIn, heightIn, besideOf, sidesOf, facing, faceOf};
 ghost use Rattle.layout_faces.specs.Inner.Margin.{Near, NearIn, levelIn};
 ghost use Rattle.layout_faces.specs.declared.Face.the-variants.{Skip};
 

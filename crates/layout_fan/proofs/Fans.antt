@@ -24,8 +24,8 @@ use Rattle.angle_sort.specs.declared.Spot.{Spot}
 use Rattle.angle_sort.specs.Order.{sortedOf}
 use Rattle.angle_sort.specs.Inner.Front.{sortedIn}
 use Rattle.angle_sort.proofs.Insertion.{length-sorted, sorted-filled}
-use Rattle.layout_faces.specs.Faces.{eps, point, others, height}
-use Rattle.layout_faces.specs.Inner.Steps.{isOther, planeOf}
+use Rattle.layout_faces.specs.Faces.{eps, point, others, height, isOther}
+use Rattle.layout_faces.specs.Inner.Steps.{planeOf}
 use Rattle.layout_faces.proofs.Reading.{height-in}
 use Rattle.layout_fan.specs.Fan.{coplanar, basisU, angleIn, fan, adjacent, inFan}
 use Rattle.layout_fan.specs.Inner.Steps.{Numbers, numbersIn, isCoplanar, coplanarOf, below54, angleOf, spotOf, noSpot, spotsOf, posOf, fanOf, fanTest}

@@ -14,8 +14,7 @@ use Rattle.lists.proofs.Once.{every-mem, mem-every, every-fails, mem-some, memb
 use Rattle.vector.specs.Vector.{Points}
 use Rattle.angle_sort.specs.declared.Spot.{Spot}
 use Rattle.angle_sort.proofs.Insertion.{length-sorted}
-use Rattle.layout_faces.specs.Faces.{Plane, others}
-use Rattle.layout_faces.specs.Inner.Steps.{isOther}
+use Rattle.layout_faces.specs.Faces.{Plane, others, isOther}
 use Rattle.layout_fan.specs.Fan.{fan, adjacent, inFan}
 use Rattle.layout_fan.specs.Meaning.{Triple, Among, fanFrom, inPlane, fanKeeps, ringBy, SeenAlike, FanMeaning}
 use Rattle.layout_fan.proofs.Rings.{fan-lowest, beside, beside-two, beside-fan, fan-beside}

@@ -4,20 +4,18 @@ use mathlib.Core.Path.{_≡_, refl, sym, ap, _∙_}
 use mathlib.Core.Bool.{Bool, true, false, _&&_, _||_, not, cond}
 use mathlib.Core.List.{List, _∷_, map, List·Memᴰ, Memᴰ·cast, Memᴰ·map, Memᴰ·of-map}
 use native.Mathlib.Omega.{arith}
-use lib.Ieee.{lt}
 use lib.ListN.{length, getD, length-map}
 use borrow.Author.Tests.{ltb-true}
 use lib.Dec.{ltb}
 use Rattle.lists.specs.Lists.{Once, every}
 use Rattle.lists.proofs.Ranges.{getD-map}
 use Rattle.lists.proofs.Once.{every-mem, mem-filter, filter-mem, once-filter, once-places, once-fewer, once-same}
-use Rattle.float_order.specs.Values.{abs}
-use Rattle.vector.specs.Vector.{Points, determinantOf, lengthOf}
-use Rattle.layout_faces.specs.Faces.{leastNormal, leastDistance, Plane, point, others, rawNormal, planeThrough, allBelow, allAbove}
+use Rattle.vector.specs.Vector.{Points}
+use Rattle.layout_faces.specs.Faces.{Plane, point, others, thin, planeThrough, oneSided, close}
 use Rattle.layout_fan.specs.Meaning.{Triple, Among, isOf, fanFrom, inPlane, fanKeeps, SeenAlike}
 use Rattle.layout_fan.proofs.Rings.{fan-among, fan-count}
 use Rattle.layout_fan.proofs.Meaning.{among-members, fan-meaning}
-use Rattle.layout_hull.specs.Triplets.{Triplet, skip, open-hull, keep, leastDeterminant, verdictBy, verdict, tripletsOf}
+use Rattle.layout_hull.specs.Triplets.{Triplet, skip, open-hull, keep, singular, verdictBy, verdict, tripletsOf}
 use Rattle.layout_hull.specs.Meaning.{Before, by-i, by-j, by-k}
 use Rattle.layout_hull.specs.Divided.{outwardPlane, otherTests, numbers, keptOf, DividedOnce, NotTwice}
 use Rattle.layout_hull.proofs.Verdicts.{tripletAt}
@@ -33,16 +31,16 @@ module _ (pts : Points) (t : Triple) where
   rest = others (length pts) (t .i) (t .j) (t .k)
 
   abbrev isThin : Bool
-  isThin = lt (lengthOf (rawNormal (point pts (t .i)) (point pts (t .j)) (point pts (t .k)))) leastNormal
+  isThin = thin (point pts (t .i)) (point pts (t .j)) (point pts (t .k))
 
   abbrev isFace : Bool
-  isFace = allBelow pts through rest || allAbove pts through rest
+  isFace = oneSided pts through rest
 
   abbrev isNear : Bool
-  isNear = lt (outwardPlane pts t .d) leastDistance
+  isNear = close (outwardPlane pts t .d)
 
   abbrev isSmall : Bool
-  isSmall = lt (abs (determinantOf (point pts (t .i)) (point pts (t .j)) (point pts (t .k)))) leastDeterminant
+  isSmall = singular (point pts (t .i)) (point pts (t .j)) (point pts (t .k))
 
   -- what is kept, the fan's test keeps
   kept-fan : (u : Triplet) → verdict pts (t .i) (t .j) (t .k) ≡ keep u → fanKeeps pts (outwardPlane pts) t ≡ true

@@ -9,7 +9,8 @@ use Rattle.vector.specs.Vector.{Vector, x, y, z, dotOf, crossOf, determinantOf,
 use Rattle.vector.proofs.Rows.{determinant-dot}
 use Rattle.layout_faces.specs.Inner.Steps.{pointIn}
 use Rattle.layout_faces.proofs.Reading.{read-dot, read-cross}
-use Rattle.layout_hull.specs.Inner.Steps.{rowOf, inverseBy}
+use Rattle.layout_hull.specs.Triplets.{inverseBy}
+use Rattle.layout_hull.specs.Inner.Steps.{rowOf}
 
 pub row-computed : (r : Vector) (det : Float) {p q s : Float} → p ≡ narrowOf (div binary64 (x r) det) → q ≡ narrowOf (div binary64 (y r) det) → s ≡ narrowOf (div binary64 (z r) det) → p ∷ q ∷ s ∷ [] ≡ rowOf r det
 unfolding rowOf

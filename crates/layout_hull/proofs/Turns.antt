@@ -15,8 +15,8 @@ use Rattle.layout_faces.specs.Inner.Steps.{faceOf}
 use Rattle.layout_faces.specs.declared.Face.{Face}
 use Rattle.layout_faces.specs.declared.Face.the-variants.{Skip, Open, Outward}
 use Rattle.layout_fan.specs.Inner.Steps.{fanTest}
-use Rattle.layout_hull.specs.Triplets.{Verdict, skip, open-hull, keep, leastDeterminant, inverseOf, verdict}
-use Rattle.layout_hull.specs.Inner.Steps.{inverseBy, inversesWith, putOf}
+use Rattle.layout_hull.specs.Triplets.{Verdict, skip, open-hull, keep, leastDeterminant, inverseOf, verdict, inverseBy}
+use Rattle.layout_hull.specs.Inner.Steps.{inversesWith, putOf}
 use Rattle.layout_hull.specs.declared.Hull.{Hull}
 use Rattle.layout_hull.proofs.Laid.{laidOf, laid-skip, laid-open, laid-keep, put-full, put-more}
 use Rattle.layout_hull.proofs.Verdicts.{at-third, third-more, tripletAt, verdict-skip, verdict-open, verdict-out, verdict-small, verdict-keep}
@@ -40,7 +40,6 @@ module _ (n : ℕ) (flat : List Float) (i j k : ℕ) (h : Hull) (inv : Third n f
   same-det = rw (point-at n flat i (omega arith), point-at n flat j (omega arith), point-at n flat k below)
 
   same-inverse : inverseOf (point (pointsIn n flat) i) (point (pointsIn n flat) j) (point (pointsIn n flat) k) ≡ inverseBy (part 3 flat i) (part 3 flat j) (part 3 flat k) det
-  unfolding inverseOf inverseBy
   same-inverse = rw (point-at n flat i (omega arith), point-at n flat j (omega arith), point-at n flat k below)
 
   skipped : verdict (pointsIn n flat) i j k ≡ skip → Third n flat i j (k + 1) h

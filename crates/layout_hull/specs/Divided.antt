@@ -2,22 +2,20 @@
 -- Proved in proofs/Divided.antt: `DividedOnce` by `divided-once`, `NotTwice` by `not-twice`; in proofs/Square.antt the example, `SquareDivided` by `square-divided`. Assumes nothing.
 use Prim.Native.Nat.{ℕ, _-_, _≤_}
 use mathlib.Core.Path.{_≡_}
-use mathlib.Core.Bool.{Bool, true, _&&_, _||_, not}
+use mathlib.Core.Bool.{Bool, true, _&&_, not}
 use mathlib.Core.List.{List, [], _∷_, map, List·Memᴰ, List·Permᴰ}
 use lib.ListN.{length}
-use lib.Ieee.{Float, neg, lt}
+use lib.Ieee.{Float, neg}
 use Rattle.lists.specs.Lists.{Once, filter, every}
-use Rattle.float_order.specs.Values.{+0, 1·0, abs}
-use Rattle.vector.specs.Vector.{Vector, Points, determinantOf, lengthOf}
-use Rattle.layout_faces.specs.Faces.{leastNormal, leastDistance, Plane, point, others, rawNormal, planeThrough, allBelow, allAbove, outward}
+use Rattle.float_order.specs.Values.{+0, 1·0}
+use Rattle.vector.specs.Vector.{Vector, Points}
+use Rattle.layout_faces.specs.Faces.{Plane, point, others, thin, planeThrough, oneSided, close}
 use Rattle.layout_fan.specs.Meaning.{Triple, isOf, fanFrom, SeenAlike}
-use Rattle.layout_hull.specs.Triplets.{Triplet, leastDeterminant, tripletsOf}
+use Rattle.layout_hull.specs.Triplets.{Triplet, singular, planeOut, tripletsOf}
 
 -- the plane through a triple, turned outward: the one that tests 3 and 4 go by
 unfoldable pub outwardPlane : Points → Triple → Plane
-outwardPlane pts t =
-    let f = planeThrough (point pts (t .i)) (point pts (t .j)) (point pts (t .k)) in
-    outward (allBelow pts f (others (length pts) (t .i) (t .j) (t .k))) f
+outwardPlane pts t = planeOut pts (t .i) (t .j) (t .k)
 
 -- the tests of a triple but the fan's: 1, 2, 3 and 5
 unfoldable pub otherTests : Points → Triple → Bool
@@ -25,12 +23,10 @@ otherTests pts t =
     let a = point pts (t .i) in
     let b = point pts (t .j) in
     let c = point pts (t .k) in
-    let f = planeThrough a b c in
-    let ps = others (length pts) (t .i) (t .j) (t .k) in
-    not (lt (lengthOf (rawNormal a b c)) leastNormal)
-    && (allBelow pts f ps || allAbove pts f ps)
-    && not (lt (outwardPlane pts t .d) leastDistance)
-    && not (lt (abs (determinantOf a b c)) leastDeterminant)
+    not (thin a b c)
+    && oneSided pts (planeThrough a b c) (others (length pts) (t .i) (t .j) (t .k))
+    && not (close (outwardPlane pts t .d))
+    && not (singular a b c)
 
 -- the triples of a set of points that are in the list of triplets
 abbrev pub numbers : Triplet → Triple

@@ -6,7 +6,8 @@ ghost use Prim.Native.Nat.{_*_, _≤_, _<_};
 ghost use lib.Seq.{sets};
 ghost use Rattle.lists.specs.Lists.{part};
 ghost use Rattle.vector.specs.Vector.{pointsIn, determinantOf};
-ghost use Rattle.layout_hull.specs.Inner.Steps.{rowOf, inverseBy, inversesWith};
+ghost use Rattle.layout_hull.specs.Triplets.{inverseBy};
+ghost use Rattle.layout_hull.specs.Inner.Steps.{rowOf, inversesWith};
 ghost use Rattle.layout_hull.specs.Inner.Flat.{hullOf};
 use layout_faces::Face;
 

@@ -11,7 +11,7 @@ use Rattle.lists.specs.Lists.{every, any, last}
 use Rattle.lists.proofs.Once.{mem-every}
 use Rattle.lists.proofs.Tests.{every-append, every-snoc, every-at, neither}
 use Rattle.vector.specs.Vector.{Points, inverseRowsOf}
-use Rattle.layout_hull.specs.Triplets.{Triplet, tripletsOf, inverseOf}
+use Rattle.layout_hull.specs.Triplets.{Triplet, tripletsOf, inverseOf, inverseBy}
 use Rattle.layout_hull.proofs.Meaning.{kept-meaning}
 use Rattle.layout_hull.proofs.Verdicts.{verdict-own}
 use Rattle.layout_closing.specs.Closing.{withPoles, stages, finalPoints, overfull}
@@ -48,7 +48,7 @@ module _ (pts : Points) where
 
   -- an inverse has nine entries
   pub inverses-nine : every (λ t. eqb (length (t .inv)) 9) (tripletsOf pts) ≡ true
-  unfolding inverseOf inverseRowsOf
+  unfolding inverseBy inverseRowsOf
   inverses-nine =
       mem-every (λ t. eqb (length (t .inv)) 9) (tripletsOf pts)
       (λ t m.

@@ -13,7 +13,7 @@ use Rattle.float_widths.specs.Narrow.{narrowOf}
 use Rattle.vector.specs.Vector.{Vector, Points, dotOf, dotIn, minor, crossOf, determinantOf, inverseRowsOf, lengthOf}
 use Rattle.layout_faces.specs.Faces.{leastNormal, leastDistance, Plane, point, others, rawNormal, planeThrough, allBelow, allAbove, outward}
 use Rattle.layout_fan.specs.Fan.{coplanar, inFan}
-use Rattle.layout_hull.specs.Triplets.{Verdict, skip, open-hull, keep, leastDeterminant, inverseOf, verdictBy, verdict, verdicts, kept, tripletsOf}
+use Rattle.layout_hull.specs.Triplets.{Verdict, skip, open-hull, keep, leastDeterminant, inverseOf, verdictBy, verdict, verdicts, kept, tripletsOf, inverseBy}
 use Rattle.float_bounds.proofs.Held.{held}
 use Rattle.float_bounds.proofs.Size.{Mag, mag-mul, mag-add}
 use Rattle.theorem_layouts.specs.Sound.{Within, SoundTriplet, largestInverse}
@@ -38,7 +38,7 @@ module _ {a b c : Vector} (p : Direction a) (q : Direction b) (r : Direction c) 
       product u v = mag-mul (2 * L) u v (held binary64 2 1074 (lit≤ tt)) (lit< tt) (lit≤ tt)
 
   inverse-within : T (not (lt (abs (determinantOf a b c)) leastDeterminant)) → Each (Within largestInverse) (inverseOf a b c)
-  unfolding inverseOf inverseRowsOf crossOf
+  unfolding inverseBy inverseRowsOf crossOf
   inverse-within n =
       let P : Float → Type 0 = λ v. Mag binary64 v (2 * L) in
       each-map (Within largestInverse) (λ e. narrowOf (div binary64 e (determinantOf a b c))) (crossOf b c ++ crossOf c a ++ crossOf a b)
@@ -46,7 +46,7 @@ module _ {a b c : Vector} (p : Direction a) (q : Direction b) (r : Direction c) 
       (each-append P (crossOf b c ++ crossOf c a) (crossOf a b) (each-append P (crossOf b c) (crossOf c a) (cross-mag q r) (cross-mag r p)) (cross-mag p q)))
 
 inverse-nine : (a b c : Vector) → length (inverseOf a b c) ≡ 9
-unfolding inverseOf inverseRowsOf
+unfolding inverseBy inverseRowsOf
 inverse-nine a b c = refl
 
 -- ---- what becomes of a triple

@@ -1,19 +1,15 @@
 -- What the functions of src/lib.rt answer on the way from the points' flat array to the definitions of `Faces`. Assumes nothing.
 use Prim.Native.Nat.{ℕ, _+_, _*_}
-use mathlib.Core.Bool.{Bool, _&&_, _||_, not, cond}
+use mathlib.Core.Bool.{_&&_, not, cond}
 use mathlib.Core.List.{List, [], _∷_}
-use lib.Dec.{eqb}
 use lib.ListN.{length, getD}
 use lib.Ieee.{Float, nan, binary64, sub, neg, lt}
 use Rattle.lists.specs.Lists.{part}
-use Rattle.vector.specs.Vector.{Vector, Points, x, y, z, dotOf, negatedOf, lengthOf}
-use Rattle.layout_faces.specs.Faces.{Plane, leastNormal, eps, leastDistance, point, others, rawNormal, planeThrough, allBelow, allAbove}
+use Rattle.vector.specs.Vector.{Vector, Points, x, y, z, dotOf, negatedOf}
+use Rattle.layout_faces.specs.Faces.{Plane, eps, point, isOther, others, thin, planeThrough, allBelow, allAbove, close}
 use Rattle.layout_faces.specs.declared.Sides.{Sides}
 use Rattle.layout_faces.specs.declared.Face.{Face}
 use Rattle.layout_faces.specs.declared.Face.the-variants.{Skip, Open, Outward}
-
-abbrev pub isOther : ℕ → ℕ → ℕ → ℕ → Bool
-isOther i j k p = not (eqb p i || eqb p j || eqb p k)
 
 -- point p as it is read from the flat array
 unfoldable pub pointIn : List Float → ℕ → Vector
@@ -36,7 +32,7 @@ sidesOf pts nrm d ps = record { below = allBelow pts (planeOf nrm d) ps; above =
 
 -- a face by its outward normal and its distance
 unfoldable pub facing : Vector → Float → Face
-facing nrm d = cond (lt d leastDistance) Open (Outward (x nrm) (y nrm) (z nrm) d)
+facing nrm d = cond (close d) Open (Outward (x nrm) (y nrm) (z nrm) d)
 
 -- a face by the sides of its plane without a point
 unfoldable pub turnedBy : Sides → Vector → Float → Face
@@ -48,4 +44,4 @@ faceOf pts i j k =
     let b = point pts j in
     let c = point pts k in
     let f = planeThrough a b c in
-    cond (lt (lengthOf (rawNormal a b c)) leastNormal) Skip (turnedBy (sidesOf pts (f .nrm) (f .d) (others (length pts) i j k)) (f .nrm) (f .d))
+    cond (thin a b c) Skip (turnedBy (sidesOf pts (f .nrm) (f .d) (others (length pts) i j k)) (f .nrm) (f .d))

@@ -15,8 +15,8 @@ use Rattle.float_arctangent.specs.Arctangent.{atan2Of}
 use Rattle.vector.specs.Vector.{Vector, Points, dotOf, crossOf}
 use Rattle.angle_sort.specs.declared.Spot.{Spot}
 use Rattle.angle_sort.specs.Order.{sortedOf}
-use Rattle.layout_faces.specs.Faces.{eps, others}
-use Rattle.layout_faces.specs.Inner.Steps.{isOther, heightIn, planeOf}
+use Rattle.layout_faces.specs.Faces.{eps, others, isOther}
+use Rattle.layout_faces.specs.Inner.Steps.{heightIn, planeOf}
 use Rattle.layout_fan.specs.Fan.{coplanar, basisU, inFan}
 
 unfoldable pub isCoplanar : List Float → ℕ → ℕ → ℕ → Vector → Float → ℕ → Bool

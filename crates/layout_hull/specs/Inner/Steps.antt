@@ -1,21 +1,18 @@
 -- What the functions of src/lib.rt answer on the way from the points' flat array to the definitions of `Triplets` and `Flat`. Assumes nothing.
 use Prim.Native.Nat.{ℕ, _+_, _*_}
 use mathlib.Core.Bool.{true, _&&_, not, cond}
-use mathlib.Core.List.{List, [], _∷_, map, foldl}
+use mathlib.Core.List.{List, [], _∷_, foldl}
 use lib.Dec.{eqb, ltb}
 use lib.ListN.{getD, set}
 use lib.Seq.{sets}
 use lib.Ieee.{Float, nan, binary64, div}
 use Rattle.lists.specs.Lists.{range}
 use Rattle.float_widths.specs.Narrow.{narrowOf}
-use Rattle.vector.specs.Vector.{Vector, x, y, z, inverseRowsOf}
+use Rattle.vector.specs.Vector.{Vector, x, y, z}
 use Rattle.layout_hull.specs.declared.Hull.{Hull}
 
 unfoldable pub rowOf : Vector → Float → List Float
 rowOf r det = narrowOf (div binary64 (x r) det) ∷ narrowOf (div binary64 (y r) det) ∷ narrowOf (div binary64 (z r) det) ∷ []
-
-unfoldable pub inverseBy : Vector → Vector → Vector → Float → List Float
-inverseBy a b c det = map (λ r. narrowOf (div binary64 r det)) (inverseRowsOf a b c)
 
 -- the first n entries of m stored for triplet t
 unfoldable pub inversesWith : List Float → ℕ → List Float → ℕ → List Float
