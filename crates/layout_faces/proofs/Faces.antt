@@ -5,10 +5,10 @@ use mathlib.Core.Bool.{true, false}
 use mathlib.Core.List.{List}
 use lib.Ieee.{Float, lt}
 use Rattle.lists.specs.Lists.{part}
-use Rattle.vector.specs.Vector.{Vector, pointsIn, dotOf, overOf, lengthOf}
+use Rattle.vector.specs.Vector.{Vector, pointsIn, dotOf, overOf, lengthOf, pointIn}
 use Rattle.vector.proofs.Points.{point-at, length-points}
 use Rattle.layout_faces.specs.Faces.{leastNormal, others, rawNormal, planeThrough}
-use Rattle.layout_faces.specs.Inner.Steps.{pointIn, sidesOf, turnedBy, faceOf}
+use Rattle.layout_faces.specs.Inner.Steps.{sidesOf, turnedBy, faceOf}
 use Rattle.layout_faces.specs.declared.Sides.{Sides}
 use Rattle.layout_faces.specs.declared.Face.the-variants.{Skip}
 use Rattle.layout_faces.proofs.Reading.{dot-read}

@@ -8,10 +8,10 @@ use lib.Ieee.{Float, nan, binary64, sub}
 use lib.ListN.{getD}
 use Rattle.lists.specs.Lists.{part}
 use Rattle.lists.proofs.Parts.{getD-part}
-use Rattle.vector.specs.Vector.{Vector, x, y, z, pointsIn, dotIn, dotOf, crossOf, lessOf}
+use Rattle.vector.specs.Vector.{Vector, x, y, z, pointsIn, dotIn, dotOf, crossOf, lessOf, pointIn}
 use Rattle.vector.proofs.Points.{point-at}
 use Rattle.layout_faces.specs.Faces.{height, rawNormal}
-use Rattle.layout_faces.specs.Inner.Steps.{pointIn, heightIn, planeOf}
+use Rattle.layout_faces.specs.Inner.Steps.{heightIn, planeOf}
 
 pub read : (flat : List Float) (i : ℕ) → pointIn flat i ≡ x (part 3 flat i) ∷ y (part 3 flat i) ∷ z (part 3 flat i) ∷ []
 unfolding pointIn

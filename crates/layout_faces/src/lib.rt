@@ -6,7 +6,7 @@ ghost use Prim.Native.Nat.{_≤_, _<_};
 ghost use Rattle.lists.specs.Lists.{part};
 ghost use Rattle.vector.specs.Vector.{pointsIn};
 ghost use Rattle.layout_faces.specs.Faces.{isOther, others, rawNormal};
-ghost use Rattle.layout_faces.specs.Inner.Steps.{pointIn, heightIn, besideOf, sidesOf, facing, faceOf};
+ghost use Rattle.layout_faces.specs.Inner.Steps.{heightIn, besideOf, sidesOf, facing, faceOf};
 ghost use Rattle.layout_faces.specs.Inner.Margin.{Near, NearIn, levelIn};
 ghost use Rattle.layout_faces.specs.declared.Face.the-variants.{Skip};
 
@@ -48,20 +48,12 @@ pub fn is_other(i: usize, j: usize, k: usize, p: usize) -> bool
     !((p == i) | (p == j) | (p == k))
 }
 
-// Point i of 54, three numbers a point. Origin of 54: document 01, 40 positions and 14 imaginary points; 162 = 54 * 3.
-pub fn point(pts: &[f64; 162], i: usize) -> [f64; 3]
-    requires { ⌜ i < 54 ⌝ }
-    ensures { λ r. ⌜ r ≡ pointIn (now (pts .entry)) i ⌝ }
-{
-    [pts[i * 3], pts[i * 3 + 1], pts[i * 3 + 2]]
-}
-
 // How far point p stands over the plane of nrm and d.
 pub fn height(pts: &[f64; 162], nrm: [f64; 3], d: f64, p: usize) -> f64
     requires { ⌜ p < 54 ⌝ }
     ensures { λ r. ⌜ r ≡ heightIn (now (pts .entry)) nrm d p ⌝ }
 {
-    vector::dot(nrm, point(pts, p)) - d
+    vector::dot(nrm, vector::point(pts, p)) - d
 }
 
 // What point p, unless it is of the triple, leaves of s.
@@ -121,9 +113,9 @@ fn raw_normal(pts: &[f64; 162], i: usize, j: usize, k: usize) -> [f64; 3]
     requires { ⌜ (i < 54) × (j < 54) × (k < 54) ⌝ }
     ensures { λ r. ⌜ r ≡ rawNormal (part 3 (now (pts .entry)) i) (part 3 (now (pts .entry)) j) (part 3 (now (pts .entry)) k) ⌝ }
 {
-    let a = point(pts, i);
-    let ab = vector::less(point(pts, j), a);
-    let ac = vector::less(point(pts, k), a);
+    let a = vector::point(pts, i);
+    let ab = vector::less(vector::point(pts, j), a);
+    let ac = vector::less(vector::point(pts, k), a);
     vector::cross(ab, ac)
 }
 
@@ -176,7 +168,7 @@ fn well_apart(pts: &[f64; 162], n: usize, i: usize, j: usize, k: usize, raw: [f6
     requires { ⌜ (n ≤ 54) × (i < n) × (j < n) × (k < n) × (raw ≡ rawNormal (part 3 (now pts) i) (part 3 (now pts) j) (part 3 (now pts) k)) ⌝ }
     ensures { λ r. ⌜ (r ≡ true → NearIn n (now (pts .entry)) → faceOf (pointsIn n (now (pts .entry))) i j k ≡ Skip) ⌝ }
 {
-    let d = vector::dot(raw, point(pts, i));
+    let d = vector::dot(raw, vector::point(pts, i));
     let mut over = false;
     let mut under = false;
     let mut p: usize = 0;
@@ -209,7 +201,7 @@ pub fn face_test(pts: &[f64; 162], n: usize, near: bool, i: usize, j: usize, k: 
         return Face::Skip;
     }
     let nrm = vector::over(raw, nl);
-    let d = vector::dot(nrm, point(pts, i));
+    let d = vector::dot(nrm, vector::point(pts, i));
     let s = all_sides(pts, n, i, j, k, nrm, d);
     if s.below {
         return outward(nrm, d);

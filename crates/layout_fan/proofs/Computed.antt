@@ -8,11 +8,11 @@ use lib.ListN.{length, take}
 use Rattle.float_order.specs.Remainder.{remEuclidOf}
 use Rattle.float_sine.specs.Pi.{twoPi}
 use Rattle.float_arctangent.specs.Arctangent.{atan2Of}
-use Rattle.vector.specs.Vector.{Vector, dotOf, crossOf, overOf, lengthOf}
+use Rattle.vector.specs.Vector.{Vector, dotOf, crossOf, overOf, lengthOf, pointIn}
 use Rattle.angle_sort.specs.declared.Spot.{Spot}
 use Rattle.angle_sort.specs.Inner.Front.{sortedIn}
 use Rattle.layout_faces.specs.Faces.{eps, isOther}
-use Rattle.layout_faces.specs.Inner.Steps.{pointIn, heightIn}
+use Rattle.layout_faces.specs.Inner.Steps.{heightIn}
 use Rattle.layout_faces.proofs.Reading.{read-dot}
 use Rattle.layout_fan.specs.Fan.{helper, basisU, nextTo, adjacent}
 use Rattle.layout_fan.specs.Inner.Steps.{isCoplanar, angleOf, spotOf, spotsOf, posOf, fanOf}

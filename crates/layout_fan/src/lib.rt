@@ -95,7 +95,7 @@ fn ang(pts: &[f64; 162], u: [f64; 3], v: [f64; 3], p: usize) -> f64
     requires { ⌜ p < 54 ⌝ }
     ensures { λ r. ⌜ r ≡ angleOf (now (pts .entry)) u v p ⌝ }
 {
-    let pt = layout_faces::point(pts, p);
+    let pt = vector::point(pts, p);
     float_arctangent::atan2(vector::dot(pt, v), vector::dot(pt, u))
 }
 

@@ -5,9 +5,8 @@ use mathlib.Core.List.{List, [], _∷_}
 use lib.Ieee.{Float, binary64, div}
 use Rattle.lists.specs.Lists.{part}
 use Rattle.float_widths.specs.Narrow.{narrowOf}
-use Rattle.vector.specs.Vector.{Vector, x, y, z, dotOf, crossOf, determinantOf, inverseRowsOf}
+use Rattle.vector.specs.Vector.{Vector, x, y, z, dotOf, crossOf, determinantOf, inverseRowsOf, pointIn}
 use Rattle.vector.proofs.Rows.{determinant-dot}
-use Rattle.layout_faces.specs.Inner.Steps.{pointIn}
 use Rattle.layout_faces.proofs.Reading.{read-dot, read-cross}
 use Rattle.layout_hull.specs.Triplets.{inverseBy}
 use Rattle.layout_hull.specs.Inner.Steps.{rowOf}

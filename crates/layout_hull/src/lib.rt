@@ -29,8 +29,8 @@ fn determinant(pts: &[f64; 162], i: usize, j: usize, k: usize) -> f64
     ensures { λ r. ⌜ r ≡ determinantOf (part 3 (now (pts .entry)) i) (part 3 (now (pts .entry)) j) (part 3 (now (pts .entry)) k) ⌝ }
 {
     vector::dot(
-        layout_faces::point(pts, i),
-        vector::cross(layout_faces::point(pts, j), layout_faces::point(pts, k)),
+        vector::point(pts, i),
+        vector::cross(vector::point(pts, j), vector::point(pts, k)),
     )
 }
 
@@ -50,9 +50,9 @@ fn inverse(pts: &[f64; 162], i: usize, j: usize, k: usize, det: f64) -> [f32; 9]
     requires { ⌜ (i < 54) × (j < 54) × (k < 54) ⌝ }
     ensures { λ r. ⌜ r ≡ inverseBy (part 3 (now (pts .entry)) i) (part 3 (now (pts .entry)) j) (part 3 (now (pts .entry)) k) det ⌝ }
 {
-    let a = layout_faces::point(pts, i);
-    let b = layout_faces::point(pts, j);
-    let c = layout_faces::point(pts, k);
+    let a = vector::point(pts, i);
+    let b = vector::point(pts, j);
+    let c = vector::point(pts, k);
     let r0 = row(vector::cross(b, c), det);
     let r1 = row(vector::cross(c, a), det);
     let r2 = row(vector::cross(a, b), det);

@@ -1,6 +1,6 @@
 -- Document 01, "What to write where" (each direction an [f64; 3]); source lines 155 to 183: unit, cross, dot, dir_vec.
 -- A vector is the list of its three numbers. What dot, cross, a determinant and an inverse's rows are is written in Operations.antt. Assumes nothing.
-use Prim.Native.Nat.{ℕ}
+use Prim.Native.Nat.{ℕ, _+_, _*_}
 use mathlib.Core.Bool.{_||_, not, cond}
 use mathlib.Core.List.{List, [], _∷_, _++_, map}
 use mathlib.Core.Option.{Option, none, some}
@@ -85,6 +85,9 @@ unfoldable pub dirVecOf : Float → Float → Vector
 dirVecOf az el =
     mul binary32 (sin32Of az) (cos32Of el) ∷ sin32Of el ∷ mul binary32 (neg (cos32Of az)) (cos32Of el) ∷ []
 
--- the first n points of a flat array, three numbers a point
+-- point p of a flat array, three numbers a point, as it is read; and the first n points
+unfoldable pub pointIn : List Float → ℕ → Vector
+pointIn flat p = getD flat (p * 3) nan ∷ getD flat (p * 3 + 1) nan ∷ getD flat (p * 3 + 2) nan ∷ []
+
 unfoldable pub pointsIn : ℕ → List Float → Points
 pointsIn n flat = map (part 3 flat) (range n)

@@ -1,9 +1,7 @@
 // Vectors of three numbers: directions and the points of a hull.
 ghost use mathlib.Core.Path.{_≡_};
 ghost use Prim.Native.Nat.{_<_};
-ghost use lib.ListN.{length};
-ghost use Rattle.lists.specs.Lists.{part};
-ghost use Rattle.vector.specs.Vector.{dotOf, crossOf, lessOf, overOf, negatedOf, lengthOf, dirVecOf};
+ghost use Rattle.vector.specs.Vector.{dotOf, crossOf, lessOf, overOf, negatedOf, lengthOf, dirVecOf, pointIn};
 ghost use Rattle.vector.specs.Inner.Unit.{unitIn};
 
 // A position as a direction, where it has one; +0 throughout where not.
@@ -93,10 +91,9 @@ pub fn length64(a: [f64; 3]) -> f64
 }
 
 // Point i of 54, three numbers a point. Origin of 54: document 01, 40 positions and 14 imaginary points; 162 = 54 * 3.
-// A reference does not tell the proof how long its array is, so the caller says it.
 pub fn point(pts: &[f64; 162], i: usize) -> [f64; 3]
-    requires { ⌜ (i < 54) × (length (now pts) ≡ 162) ⌝ }
-    ensures { λ r. ⌜ r ≡ part 3 (now (pts .entry)) i ⌝ }
+    requires { ⌜ i < 54 ⌝ }
+    ensures { λ r. ⌜ r ≡ pointIn (now (pts .entry)) i ⌝ }
 {
     [pts[i * 3], pts[i * 3 + 1], pts[i * 3 + 2]]
 }

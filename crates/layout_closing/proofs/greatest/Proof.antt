@@ -5,6 +5,7 @@ use lib.Ieee.{div, neg, ofBits}
 use Rattle.lists.specs.Lists.{part}
 use Rattle.float_order.specs.Order.{maxOf}
 use Rattle.vector.specs.Vector.{dotOf, pointsIn}
+use Rattle.layout_faces.proofs.Reading.{read-dot}
 use Rattle.layout_closing.specs.Closing.{greatest}
 use Rattle.layout_closing.proofs.Points.{greatest-none, greatest-more}
 use borrow.Author.Needs.{needs}
@@ -40,6 +41,7 @@ loop-less c = omega arith
 loop-again : tie.Need-loop-again Inv-loop μ-loop
 loop-again c =
     let b = c .before .before .before .before in
+    let q = read-dot (b .before .args .pts .now) (b .loop .i) (b .before .args .c) in
     let p : c .max64 .result ≡ maxOf (greatest (pointsIn (b .loop .i) (b .before .args .pts .now)) (b .before .args .c)) (dotOf (part 3 (b .before .args .pts .now) (b .loop .i)) (b .before .args .c)) = cc in
     (omega arith, p ∙ sym (greatest-more (b .before .args .pts .now) (b .before .args .c) (b .loop .i)))
 

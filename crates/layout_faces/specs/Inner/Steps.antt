@@ -11,10 +11,6 @@ use Rattle.layout_faces.specs.declared.Sides.{Sides}
 use Rattle.layout_faces.specs.declared.Face.{Face}
 use Rattle.layout_faces.specs.declared.Face.the-variants.{Skip, Open, Outward}
 
--- point p as it is read from the flat array
-unfoldable pub pointIn : List Float → ℕ → Vector
-pointIn flat p = getD flat (p * 3) nan ∷ getD flat (p * 3 + 1) nan ∷ getD flat (p * 3 + 2) nan ∷ []
-
 unfoldable pub heightIn : List Float → Vector → Float → ℕ → Float
 heightIn flat nrm d p = sub binary64 (dotOf nrm (part 3 flat p)) d
 

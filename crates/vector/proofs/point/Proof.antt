@@ -1,9 +1,7 @@
--- `vector::point` meets its contract: three reads of the array are its part. Assumes nothing.
-use mathlib.Core.Path.{sym}
-use native.Mathlib.Omega.{arith}
-use lib.Ieee.{nan}
+-- `vector::point` meets its contract: it reads the three places. Assumes nothing.
+use mathlib.Core.Path.{refl}
 use borrow.Author.Needs.{needs}
-use Rattle.lists.proofs.Parts.{part-three}
+use Rattle.vector.specs.Vector.{pointIn}
 use Rattle.vector.proofs.point.Statement.{statement}
 use Rattle.vector.proofs.point.Tie as tie
 
@@ -41,7 +39,8 @@ element-copy-out-t19 : tie.Need-element-copy-out-t19
 element-copy-out-t19 c = search needs
 
 returns : tie.Need-returns
-returns c = sym (part-three _ _ nan (omega arith))
+unfolding pointIn
+returns c = refl
 
 pub point-spec : {M : Type 1} → statement M
 point-spec =
