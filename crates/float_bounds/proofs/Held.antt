@@ -1,21 +1,19 @@
 -- `grid` keeps the order, and keeps what the format holds. So a bound that the format holds passes through a rounding unchanged. Assumes nothing.
 use mathlib.Core.Path.{_≡_, refl, sym, ap, _∙_, subst}
 use mathlib.Core.Logic.{inl, inr}
-use Prim.Native.Nat.{ℕ, zero, suc, _+_, _-_, _*_, _/_, _%_, _^_, _≤_, _<_, zero-le, compare}
-use native.Mathlib.Nat.{le-trans, le-of-eq, le-of-lt, lt-of-le-of-lt, lt-irrefl, eq-or-lt-of-le, eq-zero-or-pos, mul-assoc, mul-right-comm, mul-one, one-mul, zero-mul, mul-le-mul-right, mul-pos, le-div-iff-mul-le, div-div-eq-div-mul, eq-of-mul-eq-mul-right}
+use Prim.Native.Nat.{ℕ, _+_, _-_, _*_, _/_, _%_, _^_, _≤_, _<_, zero-le, compare}
+use native.Mathlib.Nat.{le-trans, le-of-eq, le-of-lt, lt-of-le-of-lt, eq-or-lt-of-le, mul-assoc, mul-right-comm, one-mul, mul-le-mul-right, mul-pos, le-div-iff-mul-le, div-div-eq-div-mul}
 use native.Mathlib.Omega.{arith}
-use mathlib.Core.Bool.{Bool, false, _&&_}
-use lib.IntN.{ℤ, pos, negsuc}
-use lib.Dec.{T, lit<, leb, ltb, eqb, ltb→lt, leb→le}
+use mathlib.Core.Bool.{Bool, false}
+use lib.Dec.{T, lit<}
 use lib.Pow.{pow-add, pow-pos, pow-mono}
-use lib.Ieee.{Float, nan, inf, fin, Format, binary32, binary64, prec, emax, low, up, down, size, round, fits}
-use lib.Ieee.Digits.{size-lt, size-le, size-reaches, back}
-use lib.Ieee.Fits.{kept-lt, nearest-le, round-is, two, two-le-pos, down-pos, and-l, and-r}
+use lib.Ieee.{Float, Format, binary32, binary64, prec, low, size, round, fits}
+use lib.Ieee.Digits.{size-lt, size-le, size-reaches}
+use lib.Ieee.Fits.{kept-lt, nearest-le, round-is, two, two-le-pos}
 use lib.Ieee.Exact.{HasValue, round-exact}
 use lib.Ieee.Nearest.{closest, closest-mono, nearest-ge, div-mono}
 use lib.Ieee.Order.{drop, kept}
 use lib.Ieee.Scale.{grid, overflow}
-use Rattle.float_order.proofs.Laws.{pow-back}
 use Rattle.float_widths.proofs.Grid.{units-size, on-grid}
 use Rattle.float_bounds.proofs.Units.{Val, round-Val}
 

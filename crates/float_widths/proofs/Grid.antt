@@ -2,7 +2,7 @@
 use mathlib.Core.Path.{_≡_, refl, sym, ap, _∙_, subst}
 use mathlib.Core.Logic.{_⊎_, inl, inr}
 use Prim.Native.Nat.{ℕ, zero, suc, _+_, _-_, _*_, _/_, _%_, _^_, _≤_, _<_, compare, Ordering, Ordering·lt, Ordering·eq, Ordering·gt}
-use native.Mathlib.Nat.{le-trans, le-of-eq, le-of-lt, lt-irrefl, mul-one, mul-assoc, mul-pos, mul-le-mul-right, eq-of-mul-eq-mul-right, le-div-iff-mul-le, suc-mul, add-mul, eq-zero-or-pos, eq-or-lt-of-le, zero-mul}
+use native.Mathlib.Nat.{le-trans, le-of-eq, le-of-lt, mul-one, mul-assoc, mul-le-mul-right, eq-of-mul-eq-mul-right, le-div-iff-mul-le, suc-mul, add-mul, eq-zero-or-pos, eq-or-lt-of-le, zero-mul}
 use native.Mathlib.Omega.{arith}
 use mathlib.Core.Bool.{Bool, true, false, not, cond, _&&_}
 use lib.IntN.{ℤ, pos, negsuc}

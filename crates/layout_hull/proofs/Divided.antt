@@ -1,7 +1,7 @@
 -- Points that all their triples see alike are divided once: the list of triplets has each kept triple once, and a triple of such points is kept where it is the fan's and the other tests pass. Assumes nothing.
 use Prim.Native.Nat.{ℕ, _<_}
 use mathlib.Core.Path.{_≡_, refl, sym, ap, _∙_}
-use mathlib.Core.Bool.{Bool, true, false, _&&_, _||_, not, cond}
+use mathlib.Core.Bool.{Bool, true, false, _&&_, not, cond}
 use mathlib.Core.List.{List, _∷_, map, List·Memᴰ, Memᴰ·cast, Memᴰ·map, Memᴰ·of-map}
 use native.Mathlib.Omega.{arith}
 use lib.ListN.{length, getD, length-map}

@@ -11,7 +11,7 @@ use lib.Ieee.{Float, nan, inf, fin, Format, binary64, low, up, down, round, sum,
 use lib.Ieee.Fits.{down-pos}
 use lib.Ieee.Scale.{round-same}
 use Rattle.float_widths.proofs.Grid.{le-or-lt}
-use Rattle.float_bounds.proofs.Units.{Val, left, right, taken, opened-add, add-round, add-unlike, add-rest, add-turned}
+use Rattle.float_bounds.proofs.Units.{Val, taken, opened-add, add-round, add-unlike, add-rest, add-turned}
 use Rattle.float_bounds.proofs.Compare.{not-lt-val, cross-lt}
 
 -- ---- the two sides of a number with a sign

@@ -2,7 +2,7 @@
 use Prim.Native.Nat.{ℕ, _+_, _-_, _≤_}
 use mathlib.Core.Path.{_≡_, refl, sym, ap, _∙_}
 use mathlib.Core.Bool.{Bool, true, false, _&&_}
-use mathlib.Core.List.{List, [], _∷_, map, flatMap, List·Memᴰ, List·Memᴰ·head, List·Memᴰ·tail}
+use mathlib.Core.List.{List, [], _∷_, map, flatMap}
 use native.Mathlib.Omega.{arith}
 use borrow.Author.Tests.{ltb-true, ltb-false, lt-ltb, le-leb, eq-eqb}
 use lib.Dec.{eqb, ltb, leb}
@@ -11,7 +11,7 @@ use Rattle.lists.specs.Lists.{every, any, last}
 use Rattle.lists.proofs.Once.{mem-every}
 use Rattle.lists.proofs.Tests.{every-append, every-snoc, every-at, neither}
 use Rattle.vector.specs.Vector.{Points, inverseRowsOf}
-use Rattle.layout_hull.specs.Triplets.{Triplet, tripletsOf, inverseOf, inverseBy}
+use Rattle.layout_hull.specs.Triplets.{Triplet, tripletsOf, inverseBy}
 use Rattle.layout_hull.proofs.Meaning.{kept-meaning}
 use Rattle.layout_hull.proofs.Verdicts.{verdict-own}
 use Rattle.layout_closing.specs.Closing.{withPoles, stages, finalPoints, overfull}

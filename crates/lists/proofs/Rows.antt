@@ -11,8 +11,7 @@ use lib.ListN.{length, getD, set, take, drop, replicate, length-append, length-r
 use lib.Seq.{sets, set-append-left, length-sets, set-comm, set-set, set-getD, take-at, drop-at, drop-append-add}
 use Rattle.lists.specs.Lists.{Each, every, from, range, filled, part}
 use Rattle.lists.proofs.Tests.{and-both}
-use Rattle.lists.proofs.Each.{each-set, length-rows}
-use Rattle.lists.proofs.Filled.{filled-none}
+use Rattle.lists.proofs.Each.{length-rows}
 use Rattle.lists.proofs.Parts.{part-row, getD-row}
 
 module _ {A : Type 0} where

@@ -2,7 +2,7 @@
 use Prim.Native.Nat.{ℕ, _*_, _<_}
 use mathlib.Core.Path.{_≡_, refl, sym, ap, _∙_}
 use mathlib.Core.Bool.{Bool, true, false, _||_, Bool·beq, true≢false}
-use native.Mathlib.Nat.{mul-one, zero-mul, mul-zero, mul-pos, eq-of-mul-eq-mul-right}
+use native.Mathlib.Nat.{mul-one, zero-mul, mul-zero, mul-pos}
 use borrow.Author.Tests.{eqb-true}
 use lib.IntN.{ℤ, pos}
 use lib.Dec.{lit<, eqb}

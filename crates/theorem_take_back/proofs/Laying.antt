@@ -26,7 +26,7 @@ use Rattle.session_calls.specs.Session.{stood, startRow}
 use Rattle.theorem_take_back.specs.Demand3.{Alike}
 use Rattle.theorem_take_back.specs.Laid.{placesOf, startOf, laidAt}
 use Rattle.theorem_take_back.proofs.Fields.{SameRest, stood-same}
-use Rattle.lists.proofs.Rows.{Wide, getD-filled-any, sets-filled, filled-replicate, rowsIn-part, rowsIn-getD, rowsIn-rest, rowsIn-sets, rowsIn-replicate, map-set, getD-fill}
+use Rattle.lists.proofs.Rows.{Wide, getD-filled-any, sets-filled, filled-replicate, rowsIn-part, rowsIn-getD, rowsIn-rest, rowsIn-sets, rowsIn-replicate, map-set}
 use Rattle.theorem_take_back.proofs.Places.{butLast-length, places, places-length, places-none, places-push, places-pop, places-at, places-same, places-settle, start-same}
 
 -- what open's acceptance says of its record, its layout and its count of sources

@@ -15,7 +15,7 @@ use Rattle.float_order.specs.Values.{+0}
 use Rattle.mix_block.specs.Inner.Turns.{rowPlaces}
 use Rattle.session_history.specs.History.{Direction, Past}
 use Rattle.theorem_take_back.specs.Laid.{numbersOf, numbersIn, placesOf, startOf}
-use Rattle.lists.proofs.Rows.{Wide, sets-all, sets-back, getD-filled-any, filled-replicate, rowsIn-getD}
+use Rattle.lists.proofs.Rows.{Wide, sets-all, sets-back, getD-filled-any, rowsIn-getD}
 
 -- ---- the last direction removed
 

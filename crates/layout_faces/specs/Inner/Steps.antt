@@ -1,9 +1,9 @@
 -- What the functions of src/lib.rt answer on the way from the points' flat array to the definitions of `Faces`. Assumes nothing.
-use Prim.Native.Nat.{ℕ, _+_, _*_}
+use Prim.Native.Nat.{ℕ}
 use mathlib.Core.Bool.{_&&_, not, cond}
-use mathlib.Core.List.{List, [], _∷_}
-use lib.ListN.{length, getD}
-use lib.Ieee.{Float, nan, binary64, sub, neg, lt}
+use mathlib.Core.List.{List}
+use lib.ListN.{length}
+use lib.Ieee.{Float, binary64, sub, neg, lt}
 use Rattle.lists.specs.Lists.{part}
 use Rattle.vector.specs.Vector.{Vector, Points, x, y, z, dotOf, negatedOf}
 use Rattle.layout_faces.specs.Faces.{Plane, eps, point, isOther, others, thin, planeThrough, allBelow, allAbove, close}
