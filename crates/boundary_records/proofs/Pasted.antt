@@ -4,37 +4,48 @@ use mathlib.Core.Path.{_≡_, refl, sym, ap, _∙_}
 use mathlib.Core.List.{List, [], _∷_, _++_, append-nil}
 use native.Mathlib.Numerals.{add-one}
 use native.Mathlib.Omega.{arith}
-use lib.ListN.{length, getD, take, drop, set, length-append, length-drop, drop-of-length-le}
+use lib.ListN.{length, getD, take, drop, set, length-set, length-append, length-drop, replicate, length-replicate, drop-of-length-le}
 use lib.Seq.{paste-zero, paste-suc, getD-drop, take-all, take-at, drop-at, drop-drop, take-append-le, drop-append-le}
 use Rattle.boundary_records.specs.Inner.Pasted.{pasted, Pasted}
 use Rattle.boundary_records.specs.Records.{section}
 
 module _ {A : Type 0} where
-  pub copy-none : (to : List A) (b : ℕ) (s : List A) → to ≡ pasted to b s 0
-  unfolding pasted
-  copy-none to b s = paste-zero to b s
+  -- ---- the loop that copies n places: what holds when i of them are copied
 
-  -- one turn
-  pub copy-more : (from to r : List A) (a b i : ℕ) (d : A) → a + i < length from → b + i < length to → r ≡ pasted to b (drop a from) i
-      → set r (b + i) (getD from (a + i) d) ≡ pasted to b (drop a from) (i + 1)
-  unfolding pasted
-  copy-more from to r a b i d h g e =
-      let k : i < length (drop a from) = omega (arith, length-drop a from) in
-      ap (λ (l : List A). set l (b + i) (getD from (a + i) d)) e
-      ∙ ap (λ (x : A). set (pasted to b (drop a from) i) (b + i) x) (sym (getD-drop a from i d))
-      ∙ paste-suc to b (drop a from) i d g k
-      ∙ ap (pasted to b (drop a from)) (sym (add-one i))
+  abbrev pub Copied : List A → ℕ → List A → ℕ → ℕ → List A → ℕ → Type 0
+  Copied from a to b n r i = (i ≤ n) × (length r ≡ length to) × (r ≡ pasted to b (drop a from) i)
 
-  -- the last turn is done
-  pub copy-done : (to s : List A) {r : List A} (b : ℕ) {i : ℕ} (n : ℕ) → i ≡ n → r ≡ pasted to b s i → r ≡ pasted to b s n
-  copy-done to s b n h e = e ∙ ap (pasted to b s) h
+  module _ (from to : List A) (a b n : ℕ) where
+    pub copied-none : Copied from a to b n to 0
+    unfolding pasted
+    copied-none = (omega arith, refl, paste-zero to b (drop a from))
 
-  -- an array of n places that is filled from a part
-  pub copied-in : {to s r : List A} {n : ℕ} → length to ≡ n → Pasted to 0 s n r → r ≡ take n s
+    -- one turn
+    pub copied-more : {r : List A} {i : ℕ} (d : A) → (a + n ≤ length from) × (b + n ≤ length to) → i < n → Copied from a to b n r i
+        → Copied from a to b n (set r (b + i) (getD from (a + i) d)) (i + 1)
+    unfolding pasted
+    copied-more {r} {i} d h t c =
+        let k : i < length (drop a from) = omega (arith, length-drop a from, h .0) in (
+          omega arith,
+          length-set r (b + i) (getD from (a + i) d) ∙ c .1,
+          ap (λ (l : List A). set l (b + i) (getD from (a + i) d)) (c .2)
+              ∙ ap (λ (x : A). set (pasted to b (drop a from) i) (b + i) x) (sym (getD-drop a from i d))
+              ∙ paste-suc to b (drop a from) i d (omega (arith, h .1)) k
+              ∙ ap (pasted to b (drop a from)) (sym (add-one i)),
+        )
+
+    -- the last turn is done
+    pub copied-all : {r : List A} {i : ℕ} → n ≤ i → Copied from a to b n r i → Pasted to b (drop a from) n r
+    copied-all {r} {i} h c =
+        let e : i ≡ n = omega (arith, h, c .0) in
+        record { is = c .2 ∙ ap (pasted to b (drop a from)) e }
+
+  -- a new array of n places that is filled from a part
+  pub copied-in : (z : A) {s r : List A} {n : ℕ} → Pasted (replicate n z) 0 s n r → r ≡ take n s
   unfolding pasted
-  copied-in {to} {s} {r} {n} h e =
-      let k : length to ≤ 0 + n = omega arith in
-      e .is ∙ ap (λ (l : List A). [] ++ take n s ++ l) (drop-of-length-le to {i = 0 + n} k) ∙ append-nil (take n s)
+  copied-in z {s} {r} {n} e =
+      let k : length (replicate n z) ≤ 0 + n = omega (arith, length-replicate n z) in
+      e .is ∙ ap (λ (l : List A). [] ++ take n s ++ l) (drop-of-length-le (replicate n z) {i = 0 + n} k) ∙ append-nil (take n s)
 
   -- an array behind the places that are laid already
   pub laid-behind : (xs ys to : List A) (b n m : ℕ) → length xs ≡ b → length ys ≡ n → b + n ≡ m

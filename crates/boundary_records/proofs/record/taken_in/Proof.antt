@@ -1,5 +1,4 @@
 -- `boundary_records::record::taken_in` meets its contract: each part is a field. Assumes nothing.
-use mathlib.Core.Path.{refl}
 use Rattle.boundary_records.proofs.Pasted.{copied-in}
 use Rattle.boundary_records.proofs.Records.{record-made}
 use native.Mathlib.Omega.{arith}
@@ -104,19 +103,19 @@ returns : tie.Need-returns
 returns c =
     let a = c .before .before .before .before .before .before .before .before .before .before .before .before .before .before .before .before .before .before .before .before .before .before .before .before .before .before .before .before .before .before .before .before .before .before .before .before .before .before .before .before .before .before .args in
     record-made (a .bytes .now) (a .floats .now)
-    (copied-in refl (c .before .before .before .before .before .before .before .before .before .before .before .before .before .before .before .before .before .before .before .before .before .before .before .before .before .before .before .before .before .before .before .before .before .before .before .before .before .before .copy-bytes .ensures))
-    (copied-in refl (c .before .before .before .before .before .before .before .before .before .before .before .before .before .before .before .before .before .before .before .before .before .before .before .before .before .before .before .before .before .before .before .before .before .before .before .copy-floats .ensures))
+    (copied-in _ (c .before .before .before .before .before .before .before .before .before .before .before .before .before .before .before .before .before .before .before .before .before .before .before .before .before .before .before .before .before .before .before .before .before .before .before .before .before .before .copy-bytes .ensures))
+    (copied-in _ (c .before .before .before .before .before .before .before .before .before .before .before .before .before .before .before .before .before .before .before .before .before .before .before .before .before .before .before .before .before .before .before .before .before .before .before .copy-floats .ensures))
     (c .before .before .before .before .before .before .before .before .before .before .before .known .ensures)
     (c .before .before .before .before .before .before .before .before .before .outputs-from .ensures)
     (c .before .before .before .before .before .before .before .kind-from .ensures)
     (c .before .before .before .before .before .before .pairs-from .ensures)
-    (copied-in refl (c .before .before .before .before .before .before .before .before .before .before .before .before .before .before .before .before .before .before .before .before .before .before .before .before .before .before .before .before .before .before .before .before .copy-bytes2 .ensures))
-    (copied-in refl (c .before .before .before .before .before .before .before .before .before .before .before .before .before .before .before .before .before .before .before .before .before .before .before .before .before .before .before .before .before .copy-bytes3 .ensures))
-    (copied-in refl (c .before .before .before .before .before .before .before .before .before .before .before .before .before .before .before .before .before .before .before .before .before .before .before .before .before .before .copy-floats2 .ensures))
-    (copied-in refl (c .before .before .before .before .before .before .before .before .before .before .before .before .before .before .before .before .before .before .before .before .before .before .before .copy-bytes4 .ensures))
-    (copied-in refl (c .before .before .before .before .before .before .before .before .before .before .before .before .before .before .before .before .before .before .before .before .copy-floats3 .ensures))
-    (copied-in refl (c .before .before .before .before .before .before .before .before .before .before .before .before .before .before .before .before .before .copy-bytes5 .ensures))
-    (copied-in refl (c .before .before .before .before .before .before .before .before .before .before .before .before .before .before .copy-bytes6 .ensures))
+    (copied-in _ (c .before .before .before .before .before .before .before .before .before .before .before .before .before .before .before .before .before .before .before .before .before .before .before .before .before .before .before .before .before .before .before .before .copy-bytes2 .ensures))
+    (copied-in _ (c .before .before .before .before .before .before .before .before .before .before .before .before .before .before .before .before .before .before .before .before .before .before .before .before .before .before .before .before .before .copy-bytes3 .ensures))
+    (copied-in _ (c .before .before .before .before .before .before .before .before .before .before .before .before .before .before .before .before .before .before .before .before .before .before .before .before .before .before .copy-floats2 .ensures))
+    (copied-in _ (c .before .before .before .before .before .before .before .before .before .before .before .before .before .before .before .before .before .before .before .before .before .before .before .copy-bytes4 .ensures))
+    (copied-in _ (c .before .before .before .before .before .before .before .before .before .before .before .before .before .before .before .before .before .before .before .before .copy-floats3 .ensures))
+    (copied-in _ (c .before .before .before .before .before .before .before .before .before .before .before .before .before .before .before .before .before .copy-bytes5 .ensures))
+    (copied-in _ (c .before .before .before .before .before .before .before .before .before .before .before .before .before .before .copy-bytes6 .ensures))
 
 pub taken-in-spec : {M : Type 1} → statement M
 taken-in-spec =

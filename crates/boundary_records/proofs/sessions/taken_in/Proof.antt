@@ -1,5 +1,4 @@
 -- `boundary_records::sessions::taken_in` meets its contract: each part is a field. Assumes nothing.
-use mathlib.Core.Path.{refl}
 use Rattle.boundary_records.proofs.Pasted.{copied-in}
 use Rattle.boundary_records.proofs.Records.{session-made}
 use borrow.Author.Needs.{needs}
@@ -34,9 +33,9 @@ returns : tie.Need-returns
 returns c =
     let a = c .before .before .before .before .before .before .before .before .before .before .before .before .before .args in
     session-made (a .bytes .now) (a .floats .now) (c .before .before .before .before .before .before .before .before .before .before .taken-in .ensures)
-    (copied-in refl (c .before .before .before .before .before .before .before .before .copy-bytes .ensures))
-    (copied-in refl (c .before .before .before .before .before .copy-floats .ensures))
-    (copied-in refl (c .before .before .copy-floats2 .ensures))
+    (copied-in _ (c .before .before .before .before .before .before .before .before .copy-bytes .ensures))
+    (copied-in _ (c .before .before .before .before .before .copy-floats .ensures))
+    (copied-in _ (c .before .before .copy-floats2 .ensures))
 
 pub taken-in-spec : {M : Type 1} → statement M
 taken-in-spec =
