@@ -31,6 +31,8 @@ use Rattle.layout_record.specs.Meaning.{HullFits, ShapeFits}
 use Rattle.layout_new.specs.declared.NewPanner.{NewPanner}
 use Rattle.layout_new.specs.Layout.{layoutOf, newRefusal, pannerOf, newOf}
 use Rattle.layout_new.proofs.Answers.{accepted-fits}
+use Rattle.mix_block.specs.Inner.Turns.{mostSources}
+use Rattle.boundary_records.specs.Places.{mostOutputs, mostTriplets, mostImaginary, headPlaces, pairBytePlaces, slotsAt, outAt, idxAt, idxPlaces, countsOfNbrsAt, nbrsAt, nbrPlaces, recordBytePlaces, pairFloatPlaces, dirPlaces, invAt, invPlaces, recordFloatPlaces, countsAt, startPlaces, standingAt, standingPlaces}
 use Rattle.boundary_records.specs.Records.{kindNumber, headOf, lawNumbers, lawNumber, numbersOf, bytesOf, pairNumbers, pairBytes, kindFrom, lawFrom, pairFrom, known, section, recordBytes, recordFloats, recordFrom}
 use Rattle.boundary_records.specs.Sessions.{ownBytes, ownFloats, sessionBytes, sessionFloats, sessionFrom, bytesLeft, floatsLeft}
 use Rattle.session_calls.specs.declared.Session.{Session}
@@ -150,44 +152,44 @@ all-known k l = kind-known (kindNumber k) (flatMap bytesOf l) (kind-small k) ∙
 
 module _ (v : VbapPanner) (w : Whole v) where
   used : List PlanarPair
-  used = take (min (v .«num_pairs») 40) (v .pairs)
+  used = take (min (v .«num_pairs») mostOutputs) (v .pairs)
 
-  few : length used ≤ 40
+  few : length used ≤ mostOutputs
   unfolding used
-  few = omega (arith, length-take (min (v .«num_pairs») 40) (v .pairs))
+  few = omega (arith, length-take (min (v .«num_pairs») mostOutputs) (v .pairs))
 
-  forty : length (v .pairs) ≡ 40
+  pairs-long : length (v .pairs) ≡ mostOutputs
   unfolding used
-  forty = ap length (w .pairs) ∙ length-filled 40 noPair used few
+  pairs-long = ap length (w .pairs) ∙ length-filled mostOutputs noPair used few
 
   all-numbers : pairNumbers (v .«num_pairs») (v .pairs) ≡ flatMap numbersOf (v .pairs)
   unfolding used pairNumbers numbersOf
-  all-numbers = flat-filled 6 numbersOf noPair +0 40 240 used six refl (omega (arith, few)) ∙ ap (flatMap numbersOf) (sym (w .pairs))
+  all-numbers = flat-filled 6 numbersOf noPair +0 mostOutputs pairFloatPlaces used six refl (omega (arith, few)) ∙ ap (flatMap numbersOf) (sym (w .pairs))
 
   all-bytes : pairBytes (v .«num_pairs») (v .pairs) ≡ flatMap bytesOf (v .pairs)
   unfolding used pairBytes bytesOf
-  all-bytes = flat-filled 3 bytesOf noPair 0 40 120 used three refl (omega (arith, few)) ∙ ap (flatMap bytesOf) (sym (w .pairs))
+  all-bytes = flat-filled 3 bytesOf noPair 0 mostOutputs pairBytePlaces used three refl (omega (arith, few)) ∙ ap (flatMap bytesOf) (sym (w .pairs))
 
-  pairs-back : v .pairs ≡ map (pairFrom (flatMap numbersOf (v .pairs)) (flatMap bytesOf (v .pairs))) (range 40)
+  pairs-back : v .pairs ≡ map (pairFrom (flatMap numbersOf (v .pairs)) (flatMap bytesOf (v .pairs))) (range mostOutputs)
   pairs-back =
       let f = pairFrom (flatMap numbersOf (v .pairs)) (flatMap bytesOf (v .pairs)) in
-      ext-getD noPair (v .pairs) (map f (range 40)) (forty ∙ sym (length-map-range f 40))
-      (λ i h. sym (getD-map-range f 40 i noPair (omega (arith, forty)) ∙ pair-at (v .pairs) i noPair h))
+      ext-getD noPair (v .pairs) (map f (range mostOutputs)) (pairs-long ∙ sym (length-map-range f mostOutputs))
+      (λ i h. sym (getD-map-range f mostOutputs i noPair (omega (arith, pairs-long)) ∙ pair-at (v .pairs) i noPair h))
 
-  long-numbers : length (pairNumbers (v .«num_pairs») (v .pairs)) ≡ 240
-  long-numbers = ap length all-numbers ∙ length-flat 6 numbersOf noPair +0 six (v .pairs) ∙ ap (λ (n : ℕ). n * 6) forty
+  long-numbers : length (pairNumbers (v .«num_pairs») (v .pairs)) ≡ pairFloatPlaces
+  long-numbers = ap length all-numbers ∙ length-flat 6 numbersOf noPair +0 six (v .pairs) ∙ ap (λ (n : ℕ). n * 6) pairs-long
 
-  long-bytes : length (pairBytes (v .«num_pairs») (v .pairs)) ≡ 120
-  long-bytes = ap length all-bytes ∙ length-flat 3 bytesOf noPair 0 three (v .pairs) ∙ ap (λ (n : ℕ). n * 3) forty
+  long-bytes : length (pairBytes (v .«num_pairs») (v .pairs)) ≡ pairBytePlaces
+  long-bytes = ap length all-bytes ∙ length-flat 3 bytesOf noPair 0 three (v .pairs) ∙ ap (λ (n : ℕ). n * 3) pairs-long
 
-  eight : length (headOf v) ≡ 8
+  head-long : length (headOf v) ≡ headPlaces
   unfolding headOf
-  eight = refl
+  head-long = refl
 
-  pub bytes-long : length (recordBytes v) ≡ 1022
-  bytes-long = length-bytes v [] eight long-bytes (w .slots) (w .out) (w .idx) (w .counts) (w .nbrs)
+  pub bytes-long : length (recordBytes v) ≡ recordBytePlaces
+  bytes-long = length-bytes v [] head-long long-bytes (w .slots) (w .out) (w .idx) (w .counts) (w .nbrs)
 
-  pub floats-long : length (recordFloats v) ≡ 1080
+  pub floats-long : length (recordFloats v) ≡ recordFloatPlaces
   floats-long = length-floats v [] long-numbers (w .dir) (w .inv)
 
   abbrev f2 : List ℕ
@@ -205,85 +207,85 @@ module _ (v : VbapPanner) (w : Whole v) where
   abbrev f6 : List ℕ
   f6 = f5 ++ v .«num_nbrs»
 
-  l2 : length f2 ≡ 128
-  l2 = length-two (headOf v) (pairBytes (v .«num_pairs») (v .pairs)) 8 120 128 eight long-bytes refl
+  l2 : length f2 ≡ slotsAt
+  l2 = length-two (headOf v) (pairBytes (v .«num_pairs») (v .pairs)) headPlaces pairBytePlaces slotsAt head-long long-bytes refl
 
-  l3 : length f3 ≡ 168
-  l3 = length-two f2 (v .slots) 128 40 168 l2 (w .slots) refl
+  l3 : length f3 ≡ outAt
+  l3 = length-two f2 (v .slots) slotsAt mostOutputs outAt l2 (w .slots) refl
 
-  l4 : length f4 ≡ 208
-  l4 = length-two f3 (v .«pt_out») 168 40 208 l3 (w .out) refl
+  l4 : length f4 ≡ idxAt
+  l4 = length-two f3 (v .«pt_out») outAt mostOutputs idxAt l3 (w .out) refl
 
-  l5 : length f5 ≡ 448
-  l5 = length-two f4 (v .idx) 208 240 448 l4 (w .idx) refl
+  l5 : length f5 ≡ countsOfNbrsAt
+  l5 = length-two f4 (v .idx) idxAt idxPlaces countsOfNbrsAt l4 (w .idx) refl
 
-  l6 : length f6 ≡ 462
-  l6 = length-two f5 (v .«num_nbrs») 448 14 462 l5 (w .counts) refl
+  l6 : length f6 ≡ nbrsAt
+  l6 = length-two f5 (v .«num_nbrs») countsOfNbrsAt mostImaginary nbrsAt l5 (w .counts) refl
 
-  second-part : section 8 120 (recordBytes v) ≡ pairBytes (v .«num_pairs») (v .pairs)
+  second-part : section headPlaces pairBytePlaces (recordBytes v) ≡ pairBytes (v .«num_pairs») (v .pairs)
   unfolding recordBytes
   second-part =
-      section-front f6 (v .«imag_nbrs») 8 120 462 l6 (omega arith)
-      ∙ section-front f5 (v .«num_nbrs») 8 120 448 l5 (omega arith)
-      ∙ section-front f4 (v .idx) 8 120 208 l4 (omega arith)
-      ∙ section-front f3 (v .«pt_out») 8 120 168 l3 (omega arith)
-      ∙ section-front f2 (v .slots) 8 120 128 l2 (omega arith)
-      ∙ section-last (headOf v) (pairBytes (v .«num_pairs») (v .pairs)) 8 120 eight long-bytes
+      section-front f6 (v .«imag_nbrs») headPlaces pairBytePlaces nbrsAt l6 (omega arith)
+      ∙ section-front f5 (v .«num_nbrs») headPlaces pairBytePlaces countsOfNbrsAt l5 (omega arith)
+      ∙ section-front f4 (v .idx) headPlaces pairBytePlaces idxAt l4 (omega arith)
+      ∙ section-front f3 (v .«pt_out») headPlaces pairBytePlaces outAt l3 (omega arith)
+      ∙ section-front f2 (v .slots) headPlaces pairBytePlaces slotsAt l2 (omega arith)
+      ∙ section-last (headOf v) (pairBytes (v .«num_pairs») (v .pairs)) headPlaces pairBytePlaces head-long long-bytes
 
-  third-part : section 128 40 (recordBytes v) ≡ v .slots
+  third-part : section slotsAt mostOutputs (recordBytes v) ≡ v .slots
   unfolding recordBytes
   third-part =
-      section-front f6 (v .«imag_nbrs») 128 40 462 l6 (omega arith)
-      ∙ section-front f5 (v .«num_nbrs») 128 40 448 l5 (omega arith)
-      ∙ section-front f4 (v .idx) 128 40 208 l4 (omega arith)
-      ∙ section-front f3 (v .«pt_out») 128 40 168 l3 (omega arith)
-      ∙ section-last f2 (v .slots) 128 40 l2 (w .slots)
+      section-front f6 (v .«imag_nbrs») slotsAt mostOutputs nbrsAt l6 (omega arith)
+      ∙ section-front f5 (v .«num_nbrs») slotsAt mostOutputs countsOfNbrsAt l5 (omega arith)
+      ∙ section-front f4 (v .idx) slotsAt mostOutputs idxAt l4 (omega arith)
+      ∙ section-front f3 (v .«pt_out») slotsAt mostOutputs outAt l3 (omega arith)
+      ∙ section-last f2 (v .slots) slotsAt mostOutputs l2 (w .slots)
 
-  fourth-part : section 168 40 (recordBytes v) ≡ v .«pt_out»
+  fourth-part : section outAt mostOutputs (recordBytes v) ≡ v .«pt_out»
   unfolding recordBytes
   fourth-part =
-      section-front f6 (v .«imag_nbrs») 168 40 462 l6 (omega arith)
-      ∙ section-front f5 (v .«num_nbrs») 168 40 448 l5 (omega arith)
-      ∙ section-front f4 (v .idx) 168 40 208 l4 (omega arith)
-      ∙ section-last f3 (v .«pt_out») 168 40 l3 (w .out)
+      section-front f6 (v .«imag_nbrs») outAt mostOutputs nbrsAt l6 (omega arith)
+      ∙ section-front f5 (v .«num_nbrs») outAt mostOutputs countsOfNbrsAt l5 (omega arith)
+      ∙ section-front f4 (v .idx) outAt mostOutputs idxAt l4 (omega arith)
+      ∙ section-last f3 (v .«pt_out») outAt mostOutputs l3 (w .out)
 
-  fifth-part : section 208 240 (recordBytes v) ≡ v .idx
+  fifth-part : section idxAt idxPlaces (recordBytes v) ≡ v .idx
   unfolding recordBytes
   fifth-part =
-      section-front f6 (v .«imag_nbrs») 208 240 462 l6 (omega arith)
-      ∙ section-front f5 (v .«num_nbrs») 208 240 448 l5 (omega arith)
-      ∙ section-last f4 (v .idx) 208 240 l4 (w .idx)
+      section-front f6 (v .«imag_nbrs») idxAt idxPlaces nbrsAt l6 (omega arith)
+      ∙ section-front f5 (v .«num_nbrs») idxAt idxPlaces countsOfNbrsAt l5 (omega arith)
+      ∙ section-last f4 (v .idx) idxAt idxPlaces l4 (w .idx)
 
-  sixth-part : section 448 14 (recordBytes v) ≡ v .«num_nbrs»
+  sixth-part : section countsOfNbrsAt mostImaginary (recordBytes v) ≡ v .«num_nbrs»
   unfolding recordBytes
   sixth-part =
-      section-front f6 (v .«imag_nbrs») 448 14 462 l6 (omega arith)
-      ∙ section-last f5 (v .«num_nbrs») 448 14 l5 (w .counts)
+      section-front f6 (v .«imag_nbrs») countsOfNbrsAt mostImaginary nbrsAt l6 (omega arith)
+      ∙ section-last f5 (v .«num_nbrs») countsOfNbrsAt mostImaginary l5 (w .counts)
 
-  last-part : section 462 560 (recordBytes v) ≡ v .«imag_nbrs»
+  last-part : section nbrsAt nbrPlaces (recordBytes v) ≡ v .«imag_nbrs»
   unfolding recordBytes
   last-part =
-      section-last f6 (v .«imag_nbrs») 462 560 l6 (w .nbrs)
+      section-last f6 (v .«imag_nbrs») nbrsAt nbrPlaces l6 (w .nbrs)
 
-  long-two : length (pairNumbers (v .«num_pairs») (v .pairs) ++ v .«pt_dir») ≡ 360
-  long-two = length-two (pairNumbers (v .«num_pairs») (v .pairs)) _ 240 120 360 long-numbers (w .dir) refl
+  long-two : length (pairNumbers (v .«num_pairs») (v .pairs) ++ v .«pt_dir») ≡ invAt
+  long-two = length-two (pairNumbers (v .«num_pairs») (v .pairs)) _ pairFloatPlaces dirPlaces invAt long-numbers (w .dir) refl
 
-  numbers-part : section 0 240 (recordFloats v) ≡ pairNumbers (v .«num_pairs») (v .pairs)
+  numbers-part : section 0 pairFloatPlaces (recordFloats v) ≡ pairNumbers (v .«num_pairs») (v .pairs)
   unfolding recordFloats
   numbers-part =
-      section-front (pairNumbers (v .«num_pairs») (v .pairs) ++ v .«pt_dir») _ 0 240 360 long-two (omega arith)
-      ∙ section-front (pairNumbers (v .«num_pairs») (v .pairs)) _ 0 240 240 long-numbers (omega arith)
-      ∙ section-last [] (pairNumbers (v .«num_pairs») (v .pairs)) 0 240 refl long-numbers
+      section-front (pairNumbers (v .«num_pairs») (v .pairs) ++ v .«pt_dir») _ 0 pairFloatPlaces invAt long-two (omega arith)
+      ∙ section-front (pairNumbers (v .«num_pairs») (v .pairs)) _ 0 pairFloatPlaces pairFloatPlaces long-numbers (omega arith)
+      ∙ section-last [] (pairNumbers (v .«num_pairs») (v .pairs)) 0 pairFloatPlaces refl long-numbers
 
-  dir-part : section 240 120 (recordFloats v) ≡ v .«pt_dir»
+  dir-part : section pairFloatPlaces dirPlaces (recordFloats v) ≡ v .«pt_dir»
   unfolding recordFloats
   dir-part =
-      section-front (pairNumbers (v .«num_pairs») (v .pairs) ++ v .«pt_dir») _ 240 120 360 long-two (omega arith)
-      ∙ section-last (pairNumbers (v .«num_pairs») (v .pairs)) _ 240 120 long-numbers (w .dir)
+      section-front (pairNumbers (v .«num_pairs») (v .pairs) ++ v .«pt_dir») _ pairFloatPlaces dirPlaces invAt long-two (omega arith)
+      ∙ section-last (pairNumbers (v .«num_pairs») (v .pairs)) _ pairFloatPlaces dirPlaces long-numbers (w .dir)
 
-  inv-part : section 360 720 (recordFloats v) ≡ v .inv
+  inv-part : section invAt invPlaces (recordFloats v) ≡ v .inv
   unfolding recordFloats
-  inv-part = section-last (pairNumbers (v .«num_pairs») (v .pairs) ++ v .«pt_dir») _ 360 720 long-two (w .inv)
+  inv-part = section-last (pairNumbers (v .«num_pairs») (v .pairs) ++ v .«pt_dir») _ invAt invPlaces long-two (w .inv)
 
   pub record-back : recordFrom (recordBytes v) (recordFloats v) ≡ v
   unfolding recordBytes headOf
@@ -310,10 +312,10 @@ handed-back v w = record-back v w
 -- ---- the session
 
 -- what stands behind the record's places is not read
-record-front : (b x : List ℕ) (f y : List Float) → length b ≡ 1022 → length f ≡ 1080 → recordFrom (b ++ x) (f ++ y) ≡ recordFrom b f
+record-front : (b x : List ℕ) (f y : List Float) → length b ≡ recordBytePlaces → length f ≡ recordFloatPlaces → recordFrom (b ++ x) (f ++ y) ≡ recordFrom b f
 unfolding recordFrom
 record-front b x f y h k =
-    let at : (i : ℕ) → i < 8 → getD (b ++ x) i 0 ≡ getD b i 0 = λ i g. List·getD-append b x 0 i (omega (arith, g, h)) in
+    let at : (i : ℕ) → i < headPlaces → getD (b ++ x) i 0 ≡ getD b i 0 = λ i g. List·getD-append b x 0 i (omega (arith, g, h)) in
     rw (
       at 0 (omega arith),
       at 1 (omega arith),
@@ -323,33 +325,33 @@ record-front b x f y h k =
       at 5 (omega arith),
       at 6 (omega arith),
       at 7 (omega arith),
-      section-front b x 8 120 1022 h (omega arith),
-      section-front b x 128 40 1022 h (omega arith),
-      section-front b x 168 40 1022 h (omega arith),
-      section-front b x 208 240 1022 h (omega arith),
-      section-front b x 448 14 1022 h (omega arith),
-      section-front b x 462 560 1022 h (omega arith),
-      section-front f y 0 240 1080 k (omega arith),
-      section-front f y 240 120 1080 k (omega arith),
-      section-front f y 360 720 1080 k (omega arith),
+      section-front b x headPlaces pairBytePlaces recordBytePlaces h (omega arith),
+      section-front b x slotsAt mostOutputs recordBytePlaces h (omega arith),
+      section-front b x outAt mostOutputs recordBytePlaces h (omega arith),
+      section-front b x idxAt idxPlaces recordBytePlaces h (omega arith),
+      section-front b x countsOfNbrsAt mostImaginary recordBytePlaces h (omega arith),
+      section-front b x nbrsAt nbrPlaces recordBytePlaces h (omega arith),
+      section-front f y 0 pairFloatPlaces recordFloatPlaces k (omega arith),
+      section-front f y pairFloatPlaces dirPlaces recordFloatPlaces k (omega arith),
+      section-front f y invAt invPlaces recordFloatPlaces k (omega arith),
     )
 
 -- a session's own part behind the places of its record
-own-back : (b : List ℕ) (f : List Float) (s : Session) → length b ≡ 1022 → length f ≡ 1080 → length (s .counts) ≡ 8 → length (s .starts) ≡ 320 → length (s .standing) ≡ 256
+own-back : (b : List ℕ) (f : List Float) (s : Session) → length b ≡ recordBytePlaces → length f ≡ recordFloatPlaces → length (s .counts) ≡ mostSources → length (s .starts) ≡ startPlaces → length (s .standing) ≡ standingPlaces
     → s .panner ≡ recordFrom b f → s ≡ sessionFrom (b ++ ownBytes s) (f ++ ownFloats s)
 unfolding ownBytes ownFloats
 own-back b f s lb lf lc ls lt e =
-    let one : length (b ++ s .sources ∷ []) ≡ 1023 = length-two b (s .sources ∷ []) 1022 1 1023 lb refl refl in
-    let two : length (f ++ s .starts) ≡ 1400 = length-two f (s .starts) 1080 320 1400 lf ls refl in
-    let counts : section 1023 8 (b ++ s .sources ∷ s .counts) ≡ s .counts =
-    ap (section 1023 8) (sym (append-snoc b (s .sources) (s .counts))) ∙ section-last (b ++ s .sources ∷ []) (s .counts) 1023 8 one lc in
-    let starts : section 1080 320 (f ++ (s .starts ++ s .standing)) ≡ s .starts =
-    ap (section 1080 320) (sym (append-assoc f (s .starts) (s .standing)))
-    ∙ section-front (f ++ s .starts) (s .standing) 1080 320 1400 two (omega arith)
-    ∙ section-last f (s .starts) 1080 320 lf ls in
-    let standing : section 1400 256 (f ++ (s .starts ++ s .standing)) ≡ s .standing =
-    ap (section 1400 256) (sym (append-assoc f (s .starts) (s .standing))) ∙ section-last (f ++ s .starts) (s .standing) 1400 256 two lt in
-    let sources : getD (b ++ s .sources ∷ s .counts) 1022 0 ≡ s .sources = getD-at b (s .sources) (s .counts) 0 1022 lb in
+    let one : length (b ++ s .sources ∷ []) ≡ countsAt = length-two b (s .sources ∷ []) recordBytePlaces 1 countsAt lb refl refl in
+    let two : length (f ++ s .starts) ≡ standingAt = length-two f (s .starts) recordFloatPlaces startPlaces standingAt lf ls refl in
+    let counts : section countsAt mostSources (b ++ s .sources ∷ s .counts) ≡ s .counts =
+    ap (section countsAt mostSources) (sym (append-snoc b (s .sources) (s .counts))) ∙ section-last (b ++ s .sources ∷ []) (s .counts) countsAt mostSources one lc in
+    let starts : section recordFloatPlaces startPlaces (f ++ (s .starts ++ s .standing)) ≡ s .starts =
+    ap (section recordFloatPlaces startPlaces) (sym (append-assoc f (s .starts) (s .standing)))
+    ∙ section-front (f ++ s .starts) (s .standing) recordFloatPlaces startPlaces standingAt two (omega arith)
+    ∙ section-last f (s .starts) recordFloatPlaces startPlaces lf ls in
+    let standing : section standingAt standingPlaces (f ++ (s .starts ++ s .standing)) ≡ s .standing =
+    ap (section standingAt standingPlaces) (sym (append-assoc f (s .starts) (s .standing))) ∙ section-last (f ++ s .starts) (s .standing) standingAt standingPlaces two lt in
+    let sources : getD (b ++ s .sources ∷ s .counts) recordBytePlaces 0 ≡ s .sources = getD-at b (s .sources) (s .counts) 0 recordBytePlaces lb in
     ap (λ (n : ℕ). record { panner = s .panner; sources = n; counts = s .counts; standing = s .standing; starts = s .starts }) (sym sources)
     ∙ session-made (b ++ s .sources ∷ s .counts) (f ++ (s .starts ++ s .standing))
     (e ∙ sym (record-front b (s .sources ∷ s .counts) f (s .starts ++ s .standing) lb lf)) (sym counts) (sym starts) (sym standing)
@@ -365,24 +367,24 @@ session-handed-back s w =
 pub left-taken-in : LeftTakenIn
 unfolding bytesLeft floatsLeft
 left-taken-in b f a hb hf z e lc ls lt =
-    let lb : length (take 1022 b) ≡ 1022 = length-take-le 1022 b (omega arith) in
-    let lf : length (take 1080 f) ≡ 1080 = length-take-le 1080 f (omega arith) in
-    let same : recordFrom b f ≡ recordFrom (take 1022 b) (take 1080 f) =
-    ap (λ (x : List ℕ). recordFrom x f) (sym (take-append-drop 1022 b))
-    ∙ ap (recordFrom (take 1022 b ++ drop 1022 b)) (sym (take-append-drop 1080 f))
-    ∙ record-front (take 1022 b) (drop 1022 b) (take 1080 f) (drop 1080 f) lb lf in
-    rw (eq-eqb (a .number) 0 z) (sym (own-back (take 1022 b) (take 1080 f) (a .session) lb lf lc ls lt (e ∙ same)))
+    let lb : length (take recordBytePlaces b) ≡ recordBytePlaces = length-take-le recordBytePlaces b (omega arith) in
+    let lf : length (take recordFloatPlaces f) ≡ recordFloatPlaces = length-take-le recordFloatPlaces f (omega arith) in
+    let same : recordFrom b f ≡ recordFrom (take recordBytePlaces b) (take recordFloatPlaces f) =
+    ap (λ (x : List ℕ). recordFrom x f) (sym (take-append-drop recordBytePlaces b))
+    ∙ ap (recordFrom (take recordBytePlaces b ++ drop recordBytePlaces b)) (sym (take-append-drop recordFloatPlaces f))
+    ∙ record-front (take recordBytePlaces b) (drop recordBytePlaces b) (take recordFloatPlaces f) (drop recordFloatPlaces f) lb lf in
+    rw (eq-eqb (a .number) 0 z) (sym (own-back (take recordBytePlaces b) (take recordFloatPlaces f) (a .session) lb lf lc ls lt (e ∙ same)))
 
 -- ---- every record of `new`
 
-few-pairs : (s : Shape) → ShapeFits s → length (pairsIn s) ≤ 40
+few-pairs : (s : Shape) → ShapeFits s → length (pairsIn s) ≤ mostOutputs
 unfolding pairsIn
 few-pairs silent f = omega arith
 few-pairs (mono i) f = omega arith
 few-pairs (planar ps ss) f = f .0
 few-pairs (hull h) f = omega arith
 
-few-slots : (s : Shape) → ShapeFits s → length (slotsIn s) ≤ 40
+few-slots : (s : Shape) → ShapeFits s → length (slotsIn s) ≤ mostOutputs
 unfolding slotsIn
 few-slots silent f = omega arith
 few-slots (mono i) f = omega arith
@@ -406,23 +408,23 @@ laid-whole l f =
     let ps = pairsIn (l .shape) in
     let h = hullIn (l .shape) in
     let g = hull-fits (l .shape) f in
-    let e : min (length ps) 40 ≡ length ps = omega (arith, few-pairs (l .shape) f) in
+    let e : min (length ps) mostOutputs ≡ length ps = omega (arith, few-pairs (l .shape) f) in
     let three : length (flatMap (λ d. d) (h .dirs)) ≡ length (h .dirs) * 3 =
     length-rows 3 (λ d. d) (h .dirs) (each-imply (λ d. eqb (length d) 3 ≡ true) (λ d. length d ≡ 3) (λ d k. eqb-true (length d) 3 k) (h .dirs) (each-every (λ d. eqb (length d) 3) (h .dirs) (g .three))) in
     let numbers-long : length (flatMap numbers (h .tris)) ≡ length (h .tris) * 3 = length-rows 3 numbers (h .tris) (each-all (λ t. length (numbers t) ≡ 3) (λ t. refl) (h .tris)) in
-    let inverse : ℕ → List Float = λ e. filled 80 +0 (map (λ (t : Triplet). getD (t .inv) e nan) (h .tris)) in
-    let row : (e : ℕ) → length (inverse e) ≡ 80 = λ e. length-filled 80 +0 (map (λ (t : Triplet). getD (t .inv) e nan) (h .tris)) (omega (arith, g .tris, length-map (h .tris) (λ (t : Triplet). getD (t .inv) e nan))) in
+    let inverse : ℕ → List Float = λ e. filled mostTriplets +0 (map (λ (t : Triplet). getD (t .inv) e nan) (h .tris)) in
+    let row : (e : ℕ) → length (inverse e) ≡ mostTriplets = λ e. length-filled mostTriplets +0 (map (λ (t : Triplet). getD (t .inv) e nan) (h .tris)) (omega (arith, g .tris, length-map (h .tris) (λ (t : Triplet). getD (t .inv) e nan))) in
     record {
-      pairs = sym (ap (λ (k : ℕ). filled 40 noPair (take k (filled 40 noPair ps))) e ∙ ap (filled 40 noPair) (take-filled 40 noPair ps));
-      slots = length-filled 40 0 (slotsIn (l .shape)) (few-slots (l .shape) f);
-      out = length-filled 40 0 (h .out) (g .out);
-      dir = length-filled 120 +0 (flatMap (λ d. d) (h .dirs)) (omega (arith, three, g .dirs, g .out));
-      idx = length-filled 240 0 (flatMap numbers (h .tris)) (omega (arith, numbers-long, g .tris));
-      inv = length-rows 80 inverse (range 9) (each-all (λ e. length (inverse e) ≡ 80) row (range 9)) ∙ ap (λ (n : ℕ). n * 80) (length-range 9);
-      counts = length-filled 14 0 (map length (h .imag)) (omega (arith, g .imag, length-map (h .imag) length));
+      pairs = sym (ap (λ (k : ℕ). filled mostOutputs noPair (take k (filled mostOutputs noPair ps))) e ∙ ap (filled mostOutputs noPair) (take-filled mostOutputs noPair ps));
+      slots = length-filled mostOutputs 0 (slotsIn (l .shape)) (few-slots (l .shape) f);
+      out = length-filled mostOutputs 0 (h .out) (g .out);
+      dir = length-filled dirPlaces +0 (flatMap (λ d. d) (h .dirs)) (omega (arith, three, g .dirs, g .out));
+      idx = length-filled idxPlaces 0 (flatMap numbers (h .tris)) (omega (arith, numbers-long, g .tris));
+      inv = length-rows mostTriplets inverse (range 9) (each-all (λ e. length (inverse e) ≡ mostTriplets) row (range 9)) ∙ ap (λ (n : ℕ). n * mostTriplets) (length-range 9);
+      counts = length-filled mostImaginary 0 (map length (h .imag)) (omega (arith, g .imag, length-map (h .imag) length));
       nbrs =
-          rows-long 40 0 14 (h .imag)
-          (each-imply (λ ns. leb (length ns) 40 ≡ true) (λ ns. length ns ≤ 40) (λ ns k. leb-true (length ns) 40 k) (h .imag) (each-every (λ ns. leb (length ns) 40) (h .imag) (g .nbrs)))
+          rows-long mostOutputs 0 mostImaginary (h .imag)
+          (each-imply (λ ns. leb (length ns) mostOutputs ≡ true) (λ ns. length ns ≤ mostOutputs) (λ ns k. leb-true (length ns) mostOutputs k) (h .imag) (each-every (λ ns. leb (length ns) mostOutputs) (h .imag) (g .nbrs)))
           (g .imag);
     }
 

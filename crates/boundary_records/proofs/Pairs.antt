@@ -16,6 +16,7 @@ use Rattle.layout_planar.specs.declared.Law.{Law}
 use Rattle.layout_planar.specs.declared.Law.the-variants.{Inverse, Crossfade}
 use Rattle.layout_planar.specs.declared.PlanarPair.{PlanarPair}
 use Rattle.layout_planar.specs.Planar.{noPair}
+use Rattle.boundary_records.specs.Places.{mostOutputs, pairBytePlaces, pairFloatPlaces}
 use Rattle.boundary_records.specs.Records.{lawNumbers, lawNumber, numbersOf, bytesOf, lawFrom, pairFrom}
 
 module _ {A : Type 0} (n : ℕ) (z : A) where
@@ -45,18 +46,18 @@ pub flatMap-more : {A B : Type 0} (f : A → List B) (l : List A) (i : ℕ) (d :
 flatMap-more f l i d h = ap (λ (n : ℕ). flatMap f (take n l)) (add-one i) ∙ ap (flatMap f) (take-suc l i d h) ∙ flatMap-snoc f (take i l) (getD l i d)
 
 -- one pair's numbers more
-pub numbers-more : (ps : List PlanarPair) (to : List Float) (i : ℕ) (d : PlanarPair) (v : List Float) → i < length ps → i * 6 + 6 ≤ 240
-    → v ≡ lawNumbers (getD ps i d .law) → Gathered 240 +0 (flatMap numbersOf (take i ps)) to (i * 6)
-    → Gathered 240 +0 (flatMap numbersOf (take (i + 1) ps))
+pub numbers-more : (ps : List PlanarPair) (to : List Float) (i : ℕ) (d : PlanarPair) (v : List Float) → i < length ps → i * 6 + 6 ≤ pairFloatPlaces
+    → v ≡ lawNumbers (getD ps i d .law) → Gathered pairFloatPlaces +0 (flatMap numbersOf (take i ps)) to (i * 6)
+    → Gathered pairFloatPlaces +0 (flatMap numbersOf (take (i + 1) ps))
     (set (set (set (set (set (set to (i * 6) (getD ps i d .start)) (i * 6 + 1) (getD ps i d .gap)) (i * 6 + 2) (getD v 0 nan)) (i * 6 + 3) (getD v 1 nan)) (i * 6 + 4) (getD v 2 nan)) (i * 6 + 5) (getD v 3 nan))
     ((i + 1) * 6)
 unfolding numbersOf
 numbers-more ps to i d v h r e g =
     let k : (i + 1) * 6 ≡ i * 6 + 6 = omega arith in
     rw k
-    (gathered-same 240 +0
+    (gathered-same pairFloatPlaces +0
     (flatMap-more numbersOf ps i d h ∙ ap (λ (l : List Float). flatMap numbersOf (take i ps) ++ l) (sym (places (getD ps i d) v e)))
-    (gathered-six 240 +0 (i * 6) _ _ _ _ _ _ r g))
+    (gathered-six pairFloatPlaces +0 (i * 6) _ _ _ _ _ _ r g))
   where
     law-places : (l : Law) → getD (lawNumbers l) 0 nan ∷ getD (lawNumbers l) 1 nan ∷ getD (lawNumbers l) 2 nan ∷ getD (lawNumbers l) 3 nan ∷ [] ≡ lawNumbers l
     law-places (Inverse a b c e) = refl
@@ -69,16 +70,16 @@ numbers-more ps to i d v h r e g =
         (ap (λ (w : List Float). getD w 0 nan ∷ getD w 1 nan ∷ getD w 2 nan ∷ getD w 3 nan ∷ []) e ∙ law-places (q .law))
 
 -- one pair's bytes more
-pub bytes-more : (ps : List PlanarPair) (to : List ℕ) (i : ℕ) (d : PlanarPair) (v : ℕ) → i < length ps → i * 3 + 3 ≤ 120
-    → v ≡ lawNumber (getD ps i d .law) → Gathered 120 0 (flatMap bytesOf (take i ps)) to (i * 3)
-    → Gathered 120 0 (flatMap bytesOf (take (i + 1) ps)) (set (set (set to (i * 3) (getD ps i d .a)) (i * 3 + 1) (getD ps i d .b)) (i * 3 + 2) v) ((i + 1) * 3)
+pub bytes-more : (ps : List PlanarPair) (to : List ℕ) (i : ℕ) (d : PlanarPair) (v : ℕ) → i < length ps → i * 3 + 3 ≤ pairBytePlaces
+    → v ≡ lawNumber (getD ps i d .law) → Gathered pairBytePlaces 0 (flatMap bytesOf (take i ps)) to (i * 3)
+    → Gathered pairBytePlaces 0 (flatMap bytesOf (take (i + 1) ps)) (set (set (set to (i * 3) (getD ps i d .a)) (i * 3 + 1) (getD ps i d .b)) (i * 3 + 2) v) ((i + 1) * 3)
 unfolding bytesOf
 bytes-more ps to i d v h r e g =
     let k : (i + 1) * 3 ≡ i * 3 + 3 = omega arith in
     rw k
-    (gathered-same 120 0
+    (gathered-same pairBytePlaces 0
     (flatMap-more bytesOf ps i d h ∙ ap (λ (l : List ℕ). flatMap bytesOf (take i ps) ++ l) (sym (places (getD ps i d) v e)))
-    (gathered-three 120 0 (i * 3) _ _ _ r g))
+    (gathered-three pairBytePlaces 0 (i * 3) _ _ _ r g))
   where
     places : (q : PlanarPair) (v : ℕ) → v ≡ lawNumber (q .law) → q .a ∷ q .b ∷ v ∷ [] ≡ bytesOf q
     places q v e = ap (λ (w : ℕ). q .a ∷ q .b ∷ w ∷ []) e
@@ -86,8 +87,8 @@ bytes-more ps to i d v h r e g =
 -- ---- taken in
 
 module _ (numbers : List Float) (bytes : List ℕ) where
-  pub pairs-none : Gathered 40 noPair (map (pairFrom numbers bytes) (range 0)) (replicate 40 noPair) 0
-  pairs-none = rw range-none (gathered-none 40 noPair)
+  pub pairs-none : Gathered mostOutputs noPair (map (pairFrom numbers bytes) (range 0)) (replicate mostOutputs noPair) 0
+  pairs-none = rw range-none (gathered-none mostOutputs noPair)
 
   -- a pair with its law
   pub pair-made : (i : ℕ) (l : Law) → l ≡ lawFrom (getD bytes (i * 3 + 2) 0) (getD numbers (i * 6 + 2) nan) (getD numbers (i * 6 + 3) nan) (getD numbers (i * 6 + 4) nan) (getD numbers (i * 6 + 5) nan)
@@ -95,14 +96,14 @@ module _ (numbers : List Float) (bytes : List ℕ) where
   unfolding pairFrom
   pair-made i l e = rw e refl
 
-  pub pairs-more : (i : ℕ) (v : PlanarPair) {to : List PlanarPair} → i < 40 → v ≡ pairFrom numbers bytes i
-      → Gathered 40 noPair (map (pairFrom numbers bytes) (range i)) to i
-      → Gathered 40 noPair (map (pairFrom numbers bytes) (range (i + 1))) (set to i v) (i + 1)
-  pairs-more i v h e g = rw e (gathered-same 40 noPair (map-range-snoc (pairFrom numbers bytes) i) (gathered-more 40 noPair (pairFrom numbers bytes i) h g))
+  pub pairs-more : (i : ℕ) (v : PlanarPair) {to : List PlanarPair} → i < mostOutputs → v ≡ pairFrom numbers bytes i
+      → Gathered mostOutputs noPair (map (pairFrom numbers bytes) (range i)) to i
+      → Gathered mostOutputs noPair (map (pairFrom numbers bytes) (range (i + 1))) (set to i v) (i + 1)
+  pairs-more i v h e g = rw e (gathered-same mostOutputs noPair (map-range-snoc (pairFrom numbers bytes) i) (gathered-more mostOutputs noPair (pairFrom numbers bytes i) h g))
 
-  pub pairs-all : {to : List PlanarPair} {i : ℕ} → i ≡ 40 → Gathered 40 noPair (map (pairFrom numbers bytes) (range i)) to i
-      → to ≡ map (pairFrom numbers bytes) (range 40)
+  pub pairs-all : {to : List PlanarPair} {i : ℕ} → i ≡ mostOutputs → Gathered mostOutputs noPair (map (pairFrom numbers bytes) (range i)) to i
+      → to ≡ map (pairFrom numbers bytes) (range mostOutputs)
   pairs-all {to} {i} e g =
       g .holds
-      ∙ filled-all 40 noPair (map (pairFrom numbers bytes) (range i)) (omega (arith, length-map-range (pairFrom numbers bytes) i))
+      ∙ filled-all mostOutputs noPair (map (pairFrom numbers bytes) (range i)) (omega (arith, length-map-range (pairFrom numbers bytes) i))
       ∙ ap (λ (n : ℕ). map (pairFrom numbers bytes) (range n)) e

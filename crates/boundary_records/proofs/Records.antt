@@ -10,16 +10,18 @@ use Rattle.layout_planar.specs.declared.PlanarPair.{PlanarPair}
 use Rattle.layout_record.specs.declared.Kind.{Kind}
 use Rattle.layout_record.specs.declared.VbapPanner.{VbapPanner}
 use Rattle.session_calls.specs.declared.Session.{Session}
+use Rattle.mix_block.specs.Inner.Turns.{mostSources}
+use Rattle.boundary_records.specs.Places.{mostOutputs, mostImaginary, headPlaces, pairBytePlaces, slotsAt, outAt, idxAt, idxPlaces, countsOfNbrsAt, nbrsAt, nbrPlaces, recordBytePlaces, pairFloatPlaces, dirPlaces, invAt, invPlaces, recordFloatPlaces, countsAt, startPlaces, standingAt, standingPlaces}
 use Rattle.boundary_records.specs.Records.{known, kindFrom, pairFrom, noRecord, section, recordFrom}
 use Rattle.boundary_records.specs.Sessions.{sessionFrom}
 
 module _ (bytes : List ℕ) (floats : List Float) where
   -- the outputs, the kind, the pairs and the arrays are told
   pub record-made : {pb : List ℕ} {pn : List Float} {b : Bool} {o : ℕ} {k : Kind} {ps : List PlanarPair} {slots out : List ℕ} {dir : List Float} {idx : List ℕ} {inv : List Float} {counts nbrs : List ℕ}
-      → pb ≡ section 8 120 bytes → pn ≡ section 0 240 floats
-      → b ≡ known (getD bytes 1 0) pb → o ≡ cond b (getD bytes 0 0) noRecord → k ≡ kindFrom (getD bytes 1 0) → ps ≡ map (pairFrom pn pb) (range 40)
-      → slots ≡ section 128 40 bytes → out ≡ section 168 40 bytes → dir ≡ section 240 120 floats → idx ≡ section 208 240 bytes → inv ≡ section 360 720 floats
-      → counts ≡ section 448 14 bytes → nbrs ≡ section 462 560 bytes
+      → pb ≡ section headPlaces pairBytePlaces bytes → pn ≡ section 0 pairFloatPlaces floats
+      → b ≡ known (getD bytes 1 0) pb → o ≡ cond b (getD bytes 0 0) noRecord → k ≡ kindFrom (getD bytes 1 0) → ps ≡ map (pairFrom pn pb) (range mostOutputs)
+      → slots ≡ section slotsAt mostOutputs bytes → out ≡ section outAt mostOutputs bytes → dir ≡ section pairFloatPlaces dirPlaces floats → idx ≡ section idxAt idxPlaces bytes → inv ≡ section invAt invPlaces floats
+      → counts ≡ section countsOfNbrsAt mostImaginary bytes → nbrs ≡ section nbrsAt nbrPlaces bytes
       → _≡_ {A = VbapPanner}
       (record {
         «num_outputs» = o;
@@ -44,7 +46,7 @@ module _ (bytes : List ℕ) (floats : List Float) where
   record-made i j e f g h s o d x v c n = rw (f, e, g, h, i, j, s, o, d, x, v, c, n)
 
   pub session-made : {p : VbapPanner} {counts : List ℕ} {starts standing : List Float}
-      → p ≡ recordFrom bytes floats → counts ≡ section 1023 8 bytes → starts ≡ section 1080 320 floats → standing ≡ section 1400 256 floats
-      → _≡_ {A = Session} (record { panner = p; sources = getD bytes 1022 0; counts = counts; standing = standing; starts = starts }) (sessionFrom bytes floats)
+      → p ≡ recordFrom bytes floats → counts ≡ section countsAt mostSources bytes → starts ≡ section recordFloatPlaces startPlaces floats → standing ≡ section standingAt standingPlaces floats
+      → _≡_ {A = Session} (record { panner = p; sources = getD bytes recordBytePlaces 0; counts = counts; standing = standing; starts = starts }) (sessionFrom bytes floats)
   unfolding sessionFrom
   session-made e f g h = rw (e, f, g, h)

@@ -1,4 +1,5 @@
 pub mod Inner
+pub mod Places
 pub mod Records
 pub mod Rows
 pub mod Sessions

@@ -13,31 +13,33 @@ use Rattle.layout_new.specs.Layout.{newOf}
 use Rattle.session_calls.specs.declared.Session.{Session}
 use Rattle.session_calls.specs.declared.Answer.{Answer}
 use Rattle.session_calls.specs.Session.{malformedSession}
+use Rattle.mix_block.specs.Inner.Turns.{mostSources}
+use Rattle.boundary_records.specs.Places.{mostOutputs, mostImaginary, headPlaces, pairBytePlaces, idxPlaces, nbrPlaces, dirPlaces, invPlaces, startPlaces, standingPlaces, sessionBytePlaces, sessionFloatPlaces}
 use Rattle.boundary_records.specs.Records.{section, known, recordBytes, recordFloats, recordFrom}
 use Rattle.boundary_records.specs.Sessions.{sessionBytes, sessionFloats, sessionFrom, bytesLeft, floatsLeft}
 
 -- where a kind or a law is none, every call refuses with 11
 abbrev pub UnknownMalformed : Type 0
 UnknownMalformed =
-    (bytes : List ℕ) (floats : List Float) → known (getD bytes 1 0) (section 8 120 bytes) ≡ false
+    (bytes : List ℕ) (floats : List Float) → known (getD bytes 1 0) (section headPlaces pairBytePlaces bytes) ≡ false
     → (malformedOf (recordFrom bytes floats) ≡ true) × (malformedSession (sessionFrom bytes floats) ≡ true)
 
 -- each field that is an array has its places, and the pairs behind their count are as `new` leaves them
 pub record Whole (v : VbapPanner) : Type 0 where
-  pub pairs : v .pairs ≡ filled 40 noPair (take (min (v .«num_pairs») 40) (v .pairs))
-  pub slots : length (v .slots) ≡ 40
-  pub out : length (v .«pt_out») ≡ 40
-  pub dir : length (v .«pt_dir») ≡ 120
-  pub idx : length (v .idx) ≡ 240
-  pub inv : length (v .inv) ≡ 720
-  pub counts : length (v .«num_nbrs») ≡ 14
-  pub nbrs : length (v .«imag_nbrs») ≡ 560
+  pub pairs : v .pairs ≡ filled mostOutputs noPair (take (min (v .«num_pairs») mostOutputs) (v .pairs))
+  pub slots : length (v .slots) ≡ mostOutputs
+  pub out : length (v .«pt_out») ≡ mostOutputs
+  pub dir : length (v .«pt_dir») ≡ dirPlaces
+  pub idx : length (v .idx) ≡ idxPlaces
+  pub inv : length (v .inv) ≡ invPlaces
+  pub counts : length (v .«num_nbrs») ≡ mostImaginary
+  pub nbrs : length (v .«imag_nbrs») ≡ nbrPlaces
 
 pub record WholeSession (s : Session) : Type 0 where
   pub panner : Whole (s .panner)
-  pub counts : length (s .counts) ≡ 8
-  pub standing : length (s .standing) ≡ 256
-  pub starts : length (s .starts) ≡ 320
+  pub counts : length (s .counts) ≡ mostSources
+  pub standing : length (s .standing) ≡ standingPlaces
+  pub starts : length (s .starts) ≡ startPlaces
 
 -- such a record, handed out and taken in, is the same
 abbrev pub HandedBack : Type 0
@@ -50,8 +52,8 @@ SessionHandedBack = (s : Session) → WholeSession s → sessionFrom (sessionByt
 -- what an accepted call on a session leaves in its arrays is taken in as the session that it answers; the lengths are those of the arrays' types
 abbrev pub LeftTakenIn : Type 0
 LeftTakenIn =
-    (bytes : List ℕ) (floats : List Float) (a : Answer) → length bytes ≡ 1031 → length floats ≡ 1656 → a .number ≡ 0 → a .session .panner ≡ recordFrom bytes floats
-    → length (a .session .counts) ≡ 8 → length (a .session .starts) ≡ 320 → length (a .session .standing) ≡ 256
+    (bytes : List ℕ) (floats : List Float) (a : Answer) → length bytes ≡ sessionBytePlaces → length floats ≡ sessionFloatPlaces → a .number ≡ 0 → a .session .panner ≡ recordFrom bytes floats
+    → length (a .session .counts) ≡ mostSources → length (a .session .starts) ≡ startPlaces → length (a .session .standing) ≡ standingPlaces
     → sessionFrom (bytesLeft bytes a) (floatsLeft floats a) ≡ a .session
 
 -- such is every record that `new` answers

@@ -13,6 +13,7 @@ use Rattle.layout_planar.specs.declared.PlanarPair.{PlanarPair}
 use Rattle.layout_record.specs.declared.Kind.{Kind}
 use Rattle.layout_record.specs.declared.Kind.the-variants.{Silent, Mono, Planar, Hull}
 use Rattle.layout_record.specs.declared.VbapPanner.{VbapPanner}
+use Rattle.boundary_records.specs.Places.{mostOutputs, mostImaginary, headPlaces, pairBytePlaces, slotsAt, outAt, idxAt, idxPlaces, countsOfNbrsAt, nbrsAt, nbrPlaces, pairFloatPlaces, dirPlaces, invAt, invPlaces}
 
 -- ---- handed out
 
@@ -43,14 +44,14 @@ numbersOf p = p .start ∷ p .gap ∷ lawNumbers (p .law)
 unfoldable pub bytesOf : PlanarPair → List ℕ
 bytesOf p = p .a ∷ p .b ∷ lawNumber (p .law) ∷ []
 
--- the numbers and the bytes of the first n of 40 pairs, +0 and 0 behind them
+-- the numbers and the bytes of the first n pairs, +0 and 0 behind them
 unfoldable pub pairNumbers : ℕ → List PlanarPair → List Float
-pairNumbers n ps = filled 240 +0 (flatMap numbersOf (take (min n 40) ps))
+pairNumbers n ps = filled pairFloatPlaces +0 (flatMap numbersOf (take (min n mostOutputs) ps))
 
 unfoldable pub pairBytes : ℕ → List PlanarPair → List ℕ
-pairBytes n ps = filled 120 0 (flatMap bytesOf (take (min n 40) ps))
+pairBytes n ps = filled pairBytePlaces 0 (flatMap bytesOf (take (min n mostOutputs) ps))
 
--- a record's 1,022 bytes and 1,080 floats, one part after another
+-- a record's bytes and floats, one part after another
 unfoldable pub recordBytes : VbapPanner → List ℕ
 recordBytes p =
     headOf p
@@ -85,11 +86,11 @@ pairFrom numbers bytes i =
           (getD numbers (i * 6 + 5) nan);
     }
 
--- the kind is one of four, and each law of the forty pairs one of two
+-- the kind is one of four, and the law of each pair, used or not, one of two
 unfoldable pub known : ℕ → List ℕ → Bool
-known kind bytes = ltb kind 4 && every (λ i. ltb (getD bytes (i * 3 + 2) 0) 2) (range 40)
+known kind bytes = ltb kind 4 && every (λ i. ltb (getD bytes (i * 3 + 2) 0) 2) (range mostOutputs)
 
--- the outputs of what is no record: over 40. Origin: the greatest byte
+-- the outputs of what is no record: more than there may be. Origin: the greatest byte
 abbrev pub noRecord : ℕ
 noRecord = 255
 
@@ -97,24 +98,24 @@ noRecord = 255
 abbrev pub section : {A : Type 0} → ℕ → ℕ → List A → List A
 section i n l = take n (drop i l)
 
--- the record in the first places of the arrays. Where a kind or a law is none its outputs are over 40, so that every call refuses it with 11 (unknown-malformed)
+-- the record in the first places of the arrays. Where a kind or a law is none its outputs are too many, so that every call refuses it with 11 (unknown-malformed)
 unfoldable pub recordFrom : List ℕ → List Float → VbapPanner
 recordFrom bytes floats =
     record {
-      «num_outputs» = cond (known (getD bytes 1 0) (section 8 120 bytes)) (getD bytes 0 0) noRecord;
+      «num_outputs» = cond (known (getD bytes 1 0) (section headPlaces pairBytePlaces bytes)) (getD bytes 0 0) noRecord;
       kind = kindFrom (getD bytes 1 0);
       mono = getD bytes 2 0;
       «num_pairs» = getD bytes 3 0;
-      pairs = map (pairFrom (section 0 240 floats) (section 8 120 bytes)) (range 40);
+      pairs = map (pairFrom (section 0 pairFloatPlaces floats) (section headPlaces pairBytePlaces bytes)) (range mostOutputs);
       «num_slots» = getD bytes 4 0;
-      slots = section 128 40 bytes;
+      slots = section slotsAt mostOutputs bytes;
       «num_real» = getD bytes 5 0;
-      «pt_out» = section 168 40 bytes;
-      «pt_dir» = section 240 120 floats;
+      «pt_out» = section outAt mostOutputs bytes;
+      «pt_dir» = section pairFloatPlaces dirPlaces floats;
       «num_tris» = getD bytes 6 0;
-      idx = section 208 240 bytes;
-      inv = section 360 720 floats;
+      idx = section idxAt idxPlaces bytes;
+      inv = section invAt invPlaces floats;
       «num_imag» = getD bytes 7 0;
-      «num_nbrs» = section 448 14 bytes;
-      «imag_nbrs» = section 462 560 bytes;
+      «num_nbrs» = section countsOfNbrsAt mostImaginary bytes;
+      «imag_nbrs» = section nbrsAt nbrPlaces bytes;
     }

@@ -9,6 +9,8 @@ use Rattle.session_history.specs.Calls.{place, takeBack}
 use Rattle.session_calls.specs.declared.Session.{Session}
 use Rattle.session_calls.specs.declared.Answer.{Answer}
 use Rattle.session_calls.specs.Answers.{answerOf}
+use Rattle.mix_block.specs.Inner.Turns.{mostSources}
+use Rattle.boundary_records.specs.Places.{recordBytePlaces, recordFloatPlaces, countsAt, startPlaces, standingAt, standingPlaces}
 use Rattle.boundary_records.specs.Records.{recordBytes, recordFloats, section, recordFrom}
 
 -- ---- handed out: the record's places, and behind them the session's own
@@ -31,10 +33,10 @@ unfoldable pub sessionFrom : List ℕ → List Float → Session
 sessionFrom bytes floats =
     record {
       panner = recordFrom bytes floats;
-      sources = getD bytes 1022 0;
-      counts = section 1023 8 bytes;
-      starts = section 1080 320 floats;
-      standing = section 1400 256 floats;
+      sources = getD bytes recordBytePlaces 0;
+      counts = section countsAt mostSources bytes;
+      starts = section recordFloatPlaces startPlaces floats;
+      standing = section standingAt standingPlaces floats;
     }
 
 -- ---- what a call leaves in a lent place
@@ -45,10 +47,10 @@ written number made before = cond (eqb number 0) made before
 
 -- the arrays of a session after a call on it that answers a: the layout's places as they were, and behind them the session's own
 unfoldable pub bytesLeft : List ℕ → Answer → List ℕ
-bytesLeft bytes a = written (a .number) (take 1022 bytes ++ ownBytes (a .session)) bytes
+bytesLeft bytes a = written (a .number) (take recordBytePlaces bytes ++ ownBytes (a .session)) bytes
 
 unfoldable pub floatsLeft : List Float → Answer → List Float
-floatsLeft floats a = written (a .number) (take 1080 floats ++ ownFloats (a .session)) floats
+floatsLeft floats a = written (a .number) (take recordFloatPlaces floats ++ ownFloats (a .session)) floats
 
 -- ---- several directions
 

@@ -1,10 +1,8 @@
 // A record in two lent arrays, handed out and taken in. The kind is a number there, and so is the law of each pair.
 //
-// Its 1,022 bytes: at 0 the head (outputs, kind, mono slot, and the counts of pairs, slots, real points, triplets and imaginary points),
-// at 8 three bytes for each of 40 pairs, at 128 the 40 slots, at 168 the 40 points' slots, at 208 three numbers for each of 80 triplets,
-// at 448 the 14 counts of neighbours, at 462 40 neighbours for each of 14 imaginary points.
-// Its 1,080 floats: at 0 six for each of 40 pairs, at 240 three for each of 40 points, at 360 nine for each of 80 triplets.
-// Origin of the counts: document 01, "Returned numbers" (11); each part begins where the one before ends.
+// Its bytes: the head, the pairs' bytes, the slots, the points' slots, the triplets' point numbers, the counts of neighbours, the neighbours.
+// Its floats: the pairs' numbers, the points' directions, the triplets' inverses.
+// Each part begins where the one before ends; specs/Places.antt has the same numbers.
 ghost use mathlib.Core.Path.{_≡_};
 ghost use mathlib.Core.Bool.{cond};
 ghost use mathlib.Core.List.{_++_, map};
@@ -12,6 +10,7 @@ ghost use Prim.Native.Nat.{_≤_};
 ghost use lib.ListN.{length, drop};
 ghost use Rattle.boundary_records.specs.Inner.Pasted.{pasted};
 ghost use Rattle.lists.specs.Lists.{range};
+ghost use Rattle.boundary_records.specs.Places.{mostOutputs, mostImaginary, headPlaces, pairBytePlaces, slotsAt, outAt, idxAt, idxPlaces, countsOfNbrsAt, nbrsAt, nbrPlaces, recordBytePlaces, pairFloatPlaces, dirPlaces, invAt, invPlaces, recordFloatPlaces};
 ghost use Rattle.boundary_records.specs.Records.{kindNumber, headOf, lawNumbers, lawNumber, pairNumbers, pairBytes, recordBytes, recordFloats, kindFrom, lawFrom, pairFrom, known, noRecord, recordFrom};
 use crate::copies::copy_bytes;
 use crate::copies::copy_floats;
@@ -20,18 +19,65 @@ use layout_planar::Law;
 use layout_planar::PlanarPair;
 use layout_record::Kind;
 use layout_record::VbapPanner;
+use mix_block::ROW;
 
-// A record's bytes, 1,022: 8 of the head, 120 of the pairs, twice 40 slots, 240 point numbers, 14 counts and 560 neighbours.
-pub const BYTES: usize = 8 + 120 + 40 + 40 + 240 + 14 + 560;
+// Outputs, and no more pairs, slots, real points and neighbours of one: 40. Origin: a place of a row for each output.
+const OUTPUTS: usize = ROW;
 
-// A record's floats, 1,080: 240 of the pairs, 120 of the points, 720 of the triplets.
-pub const FLOATS: usize = 240 + 120 + 720;
+// Triplets of a hull. Origin: document 01, refusal 4.
+const TRIPLETS: usize = 80;
+
+// Imaginary points of a hull. Origin: document 01, "Returned numbers" (11).
+const IMAGINARY: usize = 14;
+
+// ---- bytes: how many of each part, and where it begins
+
+// Outputs, kind, mono slot, and the counts of pairs, slots, real points, triplets and imaginary points.
+const HEAD: usize = 8;
+
+// Both slots and the law of each pair.
+const PAIR_BYTES: usize = OUTPUTS * 3;
+
+const SLOTS_AT: usize = HEAD + PAIR_BYTES;
+
+const OUT_AT: usize = SLOTS_AT + OUTPUTS;
+
+const IDX_AT: usize = OUT_AT + OUTPUTS;
+
+// Three point numbers of each triplet.
+const IDX: usize = TRIPLETS * 3;
+
+const NUM_NBRS_AT: usize = IDX_AT + IDX;
+
+const NBRS_AT: usize = NUM_NBRS_AT + IMAGINARY;
+
+// A list of neighbours for each imaginary point.
+const NBRS: usize = IMAGINARY * OUTPUTS;
+
+// A record's bytes, 1,022.
+pub const BYTES: usize = NBRS_AT + NBRS;
+
+// ---- floats
+
+// Start, gap and the law's four numbers of each pair.
+const PAIR_FLOATS: usize = OUTPUTS * 6;
+
+// The direction of each real point.
+const DIR: usize = OUTPUTS * 3;
+
+const INV_AT: usize = PAIR_FLOATS + DIR;
+
+// The nine entries of each triplet's inverse, entry after entry.
+const INV: usize = 9 * TRIPLETS;
+
+// A record's floats, 1,080.
+pub const FLOATS: usize = INV_AT + INV;
 
 pub type RecordBytes = [u8; BYTES];
 
 pub type RecordFloats = [f32; FLOATS];
 
-// The outputs of what is no record: over 40, so that every call refuses it with 11. Origin: the greatest byte.
+// The outputs of what is no record: too many, so that every call refuses it with 11. Origin: the greatest byte.
 const NO_RECORD: u8 = 255;
 
 // ---- handed out
@@ -49,7 +95,7 @@ fn kind_number(kind: Kind) -> u8
 }
 
 // Outputs, the kind, the mono slot, and the counts of pairs, slots, real points, triplets and imaginary points.
-fn head_of(p: VbapPanner) -> [u8; 8]
+fn head_of(p: VbapPanner) -> [u8; HEAD]
     ensures { λ r. ⌜ r ≡ headOf p ⌝ }
 {
     let kind = p.kind;
@@ -86,11 +132,11 @@ fn law_number(law: Law) -> u8
 }
 
 // The numbers of the first n pairs, six a pair: start, gap and the law's.
-fn numbers_of(ps: [PlanarPair; 40], n: usize) -> [f32; 240]
+fn numbers_of(ps: [PlanarPair; OUTPUTS], n: usize) -> [f32; PAIR_FLOATS]
     ensures { λ r. ⌜ r ≡ pairNumbers n ps ⌝ }
 {
-    let m = least(n, 40);
-    let mut to = [0.0f32; 240];
+    let m = least(n, OUTPUTS);
+    let mut to = [0.0f32; PAIR_FLOATS];
     let mut i: usize = 0;
     while i < m {
         let p = ps[i];
@@ -109,11 +155,11 @@ fn numbers_of(ps: [PlanarPair; 40], n: usize) -> [f32; 240]
 }
 
 // The slots of the first n pairs and the law's number, three bytes a pair.
-fn bytes_of(ps: [PlanarPair; 40], n: usize) -> [u8; 120]
+fn bytes_of(ps: [PlanarPair; OUTPUTS], n: usize) -> [u8; PAIR_BYTES]
     ensures { λ r. ⌜ r ≡ pairBytes n ps ⌝ }
 {
-    let m = least(n, 40);
-    let mut to = [0u8; 120];
+    let m = least(n, OUTPUTS);
+    let mut to = [0u8; PAIR_BYTES];
     let mut i: usize = 0;
     while i < m {
         let p = ps[i];
@@ -127,52 +173,52 @@ fn bytes_of(ps: [PlanarPair; 40], n: usize) -> [u8; 120]
     to
 }
 
-// The first 168 bytes: the head, the pairs' bytes and the slots.
-fn put_planar(head: [u8; 8], pair_bytes: [u8; 120], slots: [u8; 40], to: &mut [u8])
-    requires { ⌜ 1022 ≤ length (now to) ⌝ }
-    ensures { λ _. ⌜ now (to .exit) ≡ pasted (pasted (pasted (now (to .entry)) 0 head 8) 8 «pair_bytes» 120) 128 slots 40 ⌝ }
-    ensures long { λ _. ⌜ (length head ≡ 8) × (length «pair_bytes» ≡ 120) × (length slots ≡ 40) ⌝ }
+// The first bytes: the head, the pairs' bytes and the slots.
+fn put_planar(head: [u8; HEAD], pair_bytes: [u8; PAIR_BYTES], slots: [u8; OUTPUTS], to: &mut [u8])
+    requires { ⌜ recordBytePlaces ≤ length (now to) ⌝ }
+    ensures { λ _. ⌜ now (to .exit) ≡ pasted (pasted (pasted (now (to .entry)) 0 head headPlaces) headPlaces «pair_bytes» pairBytePlaces) slotsAt slots mostOutputs ⌝ }
+    ensures long { λ _. ⌜ (length head ≡ headPlaces) × (length «pair_bytes» ≡ pairBytePlaces) × (length slots ≡ mostOutputs) ⌝ }
 {
-    copy_bytes(&head, 0, to, 0, 8);
-    copy_bytes(&pair_bytes, 0, to, 8, 120);
-    copy_bytes(&slots, 0, to, 128, 40);
+    copy_bytes(&head, 0, to, 0, HEAD);
+    copy_bytes(&pair_bytes, 0, to, HEAD, PAIR_BYTES);
+    copy_bytes(&slots, 0, to, SLOTS_AT, OUTPUTS);
 }
 
 // The bytes behind them: the points' slots, the triplets' numbers, and the neighbours with their counts.
 fn put_hull(
-    pt_out: [u8; 40],
-    idx: [u8; 240],
-    num_nbrs: [u8; 14],
-    imag_nbrs: [u8; 560],
+    pt_out: [u8; OUTPUTS],
+    idx: [u8; IDX],
+    num_nbrs: [u8; IMAGINARY],
+    imag_nbrs: [u8; NBRS],
     to: &mut [u8],
 )
-    requires { ⌜ 1022 ≤ length (now to) ⌝ }
-    ensures { λ _. ⌜ now (to .exit) ≡ pasted (pasted (pasted (pasted (now (to .entry)) 168 «pt_out» 40) 208 idx 240) 448 «num_nbrs» 14) 462 «imag_nbrs» 560 ⌝ }
-    ensures long { λ _. ⌜ (length «pt_out» ≡ 40) × (length idx ≡ 240) × (length «num_nbrs» ≡ 14) × (length «imag_nbrs» ≡ 560) ⌝ }
+    requires { ⌜ recordBytePlaces ≤ length (now to) ⌝ }
+    ensures { λ _. ⌜ now (to .exit) ≡ pasted (pasted (pasted (pasted (now (to .entry)) outAt «pt_out» mostOutputs) idxAt idx idxPlaces) countsOfNbrsAt «num_nbrs» mostImaginary) nbrsAt «imag_nbrs» nbrPlaces ⌝ }
+    ensures long { λ _. ⌜ (length «pt_out» ≡ mostOutputs) × (length idx ≡ idxPlaces) × (length «num_nbrs» ≡ mostImaginary) × (length «imag_nbrs» ≡ nbrPlaces) ⌝ }
 {
-    copy_bytes(&pt_out, 0, to, 168, 40);
-    copy_bytes(&idx, 0, to, 208, 240);
-    copy_bytes(&num_nbrs, 0, to, 448, 14);
-    copy_bytes(&imag_nbrs, 0, to, 462, 560);
+    copy_bytes(&pt_out, 0, to, OUT_AT, OUTPUTS);
+    copy_bytes(&idx, 0, to, IDX_AT, IDX);
+    copy_bytes(&num_nbrs, 0, to, NUM_NBRS_AT, IMAGINARY);
+    copy_bytes(&imag_nbrs, 0, to, NBRS_AT, NBRS);
 }
 
 // The floats: of the pairs, the points' directions and the inverses.
-fn put_floats(pair_numbers: [f32; 240], pt_dir: [f32; 120], inv: [f32; 720], to: &mut [f32])
-    requires { ⌜ 1080 ≤ length (now to) ⌝ }
-    ensures { λ _. ⌜ now (to .exit) ≡ pasted (pasted (pasted (now (to .entry)) 0 «pair_numbers» 240) 240 «pt_dir» 120) 360 inv 720 ⌝ }
-    ensures long { λ _. ⌜ (length «pair_numbers» ≡ 240) × (length «pt_dir» ≡ 120) × (length inv ≡ 720) ⌝ }
+fn put_floats(pair_numbers: [f32; PAIR_FLOATS], pt_dir: [f32; DIR], inv: [f32; INV], to: &mut [f32])
+    requires { ⌜ recordFloatPlaces ≤ length (now to) ⌝ }
+    ensures { λ _. ⌜ now (to .exit) ≡ pasted (pasted (pasted (now (to .entry)) 0 «pair_numbers» pairFloatPlaces) pairFloatPlaces «pt_dir» dirPlaces) invAt inv invPlaces ⌝ }
+    ensures long { λ _. ⌜ (length «pair_numbers» ≡ pairFloatPlaces) × (length «pt_dir» ≡ dirPlaces) × (length inv ≡ invPlaces) ⌝ }
 {
-    copy_floats(&pair_numbers, 0, to, 0, 240);
-    copy_floats(&pt_dir, 0, to, 240, 120);
-    copy_floats(&inv, 0, to, 360, 720);
+    copy_floats(&pair_numbers, 0, to, 0, PAIR_FLOATS);
+    copy_floats(&pt_dir, 0, to, PAIR_FLOATS, DIR);
+    copy_floats(&inv, 0, to, INV_AT, INV);
 }
 
 // The record into the first places of the arrays; the places behind it stay.
 pub fn hand_out(p: VbapPanner, bytes: &mut [u8], floats: &mut [f32])
-    requires { ⌜ (1022 ≤ length (now bytes)) × (1080 ≤ length (now floats)) ⌝ }
-    ensures bytes { λ _. ⌜ now (bytes .exit) ≡ recordBytes p ++ drop 1022 (now (bytes .entry)) ⌝ }
-    ensures floats { λ _. ⌜ now (floats .exit) ≡ recordFloats p ++ drop 1080 (now (floats .entry)) ⌝ }
-    ensures long { λ _. ⌜ (length (recordBytes p) ≡ 1022) × (length (recordFloats p) ≡ 1080) ⌝ }
+    requires { ⌜ (recordBytePlaces ≤ length (now bytes)) × (recordFloatPlaces ≤ length (now floats)) ⌝ }
+    ensures bytes { λ _. ⌜ now (bytes .exit) ≡ recordBytes p ++ drop recordBytePlaces (now (bytes .entry)) ⌝ }
+    ensures floats { λ _. ⌜ now (floats .exit) ≡ recordFloats p ++ drop recordFloatPlaces (now (floats .entry)) ⌝ }
+    ensures long { λ _. ⌜ (length (recordBytes p) ≡ recordBytePlaces) × (length (recordFloats p) ≡ recordFloatPlaces) ⌝ }
 {
     let head = head_of(p);
     let pairs = p.pairs;
@@ -219,15 +265,15 @@ fn law_from(n: u8, m0: f32, m1: f32, m2: f32, m3: f32) -> Law
     Law::Crossfade
 }
 
-// Whether the kind is one of four, and each law of the forty pairs one of two.
-fn known(kind: u8, bytes: [u8; 120]) -> bool
+// Whether the kind is one of four, and the law of each pair, used or not, one of two.
+fn known(kind: u8, bytes: [u8; PAIR_BYTES]) -> bool
     ensures { λ r. ⌜ r ≡ known kind bytes ⌝ }
 {
     if 3 < kind {
         return false;
     }
     let mut i: usize = 0;
-    while i < 40 {
+    while i < OUTPUTS {
         if 1 < bytes[i * 3 + 2] {
             return false;
         }
@@ -246,9 +292,9 @@ fn outputs_from(is_known: bool, n: u8) -> u8
     NO_RECORD
 }
 
-// The forty pairs: six numbers of each, start, gap and the law's, and three bytes, both slots and the law.
-fn pairs_from(numbers: [f32; 240], bytes: [u8; 120]) -> [PlanarPair; 40]
-    ensures { λ r. ⌜ r ≡ map (pairFrom numbers bytes) (range 40) ⌝ }
+// All pairs: six numbers of each, start, gap and the law's, and three bytes, both slots and the law.
+fn pairs_from(numbers: [f32; PAIR_FLOATS], bytes: [u8; PAIR_BYTES]) -> [PlanarPair; OUTPUTS]
+    ensures { λ r. ⌜ r ≡ map (pairFrom numbers bytes) (range mostOutputs) ⌝ }
 {
     let blank = PlanarPair {
         start: 0.0,
@@ -257,9 +303,9 @@ fn pairs_from(numbers: [f32; 240], bytes: [u8; 120]) -> [PlanarPair; 40]
         b: 0,
         law: Law::Crossfade,
     };
-    let mut pairs = [blank; 40];
+    let mut pairs = [blank; OUTPUTS];
     let mut i: usize = 0;
-    while i < 40 {
+    while i < OUTPUTS {
         let k = i * 6;
         let j = i * 3;
         let law = law_from(
@@ -284,27 +330,27 @@ fn pairs_from(numbers: [f32; 240], bytes: [u8; 120]) -> [PlanarPair; 40]
 
 // The record in the first places of the arrays; one with too many outputs where a kind or a law is none.
 pub fn taken_in(bytes: &[u8], floats: &[f32]) -> VbapPanner
-    requires { ⌜ (1022 ≤ length (now bytes)) × (1080 ≤ length (now floats)) ⌝ }
+    requires { ⌜ (recordBytePlaces ≤ length (now bytes)) × (recordFloatPlaces ≤ length (now floats)) ⌝ }
     ensures { λ r. ⌜ r ≡ recordFrom (now (bytes .entry)) (now (floats .entry)) ⌝ }
 {
-    let mut pair_bytes = [0u8; 120];
-    copy_bytes(bytes, 8, &mut pair_bytes, 0, 120);
-    let mut pair_numbers = [0.0f32; 240];
-    copy_floats(floats, 0, &mut pair_numbers, 0, 240);
-    let mut slots = [0u8; 40];
-    copy_bytes(bytes, 128, &mut slots, 0, 40);
-    let mut pt_out = [0u8; 40];
-    copy_bytes(bytes, 168, &mut pt_out, 0, 40);
-    let mut pt_dir = [0.0f32; 120];
-    copy_floats(floats, 240, &mut pt_dir, 0, 120);
-    let mut idx = [0u8; 240];
-    copy_bytes(bytes, 208, &mut idx, 0, 240);
-    let mut inv = [0.0f32; 720];
-    copy_floats(floats, 360, &mut inv, 0, 720);
-    let mut num_nbrs = [0u8; 14];
-    copy_bytes(bytes, 448, &mut num_nbrs, 0, 14);
-    let mut imag_nbrs = [0u8; 560];
-    copy_bytes(bytes, 462, &mut imag_nbrs, 0, 560);
+    let mut pair_bytes = [0u8; PAIR_BYTES];
+    copy_bytes(bytes, HEAD, &mut pair_bytes, 0, PAIR_BYTES);
+    let mut pair_numbers = [0.0f32; PAIR_FLOATS];
+    copy_floats(floats, 0, &mut pair_numbers, 0, PAIR_FLOATS);
+    let mut slots = [0u8; OUTPUTS];
+    copy_bytes(bytes, SLOTS_AT, &mut slots, 0, OUTPUTS);
+    let mut pt_out = [0u8; OUTPUTS];
+    copy_bytes(bytes, OUT_AT, &mut pt_out, 0, OUTPUTS);
+    let mut pt_dir = [0.0f32; DIR];
+    copy_floats(floats, PAIR_FLOATS, &mut pt_dir, 0, DIR);
+    let mut idx = [0u8; IDX];
+    copy_bytes(bytes, IDX_AT, &mut idx, 0, IDX);
+    let mut inv = [0.0f32; INV];
+    copy_floats(floats, INV_AT, &mut inv, 0, INV);
+    let mut num_nbrs = [0u8; IMAGINARY];
+    copy_bytes(bytes, NUM_NBRS_AT, &mut num_nbrs, 0, IMAGINARY);
+    let mut imag_nbrs = [0u8; NBRS];
+    copy_bytes(bytes, NBRS_AT, &mut imag_nbrs, 0, NBRS);
     let num_outputs = outputs_from(known(bytes[1], pair_bytes), bytes[0]);
     let kind = kind_from(bytes[1]);
     let pairs = pairs_from(pair_numbers, pair_bytes);

@@ -3,6 +3,7 @@ use Prim.Native.Nat.{_-_, _*_, _≤_, min}
 use mathlib.Core.Path.{_≡_, refl}
 use mathlib.Core.List.{flatMap}
 use lib.ListN.{length, take, length-set}
+use Rattle.boundary_records.specs.Places.{mostOutputs, pairBytePlaces}
 use Rattle.boundary_records.specs.Records.{bytesOf, pairBytes}
 use Rattle.lists.proofs.Filled.{Gathered, gathered-none}
 use Rattle.boundary_records.proofs.Pairs.{bytes-more}
@@ -12,7 +13,7 @@ use Rattle.boundary_records.proofs.record.bytes_of.Statement.{statement
 use Rattle.boundary_records.proofs.record.bytes_of.Tie as tie
 
 abbrev Inv-loop : tie.InvT-loop
-Inv-loop n ps m to₀ i₀ to i = (i ≤ m) × (m ≤ 40) × (length to ≡ 120) × (length ps ≡ 40) × Gathered 120 0 (flatMap bytesOf (take i ps)) to (i * 3)
+Inv-loop n ps m to₀ i₀ to i = (i ≤ m) × (m ≤ mostOutputs) × (length to ≡ pairBytePlaces) × (length ps ≡ mostOutputs) × Gathered pairBytePlaces 0 (flatMap bytesOf (take i ps)) to (i * 3)
 
 abbrev μ-loop : tie.MeasureT-loop
 μ-loop n ps m to₀ i₀ to i = m - i
@@ -22,7 +23,7 @@ least-requires c κs = search needs
 
 loop-holds : tie.Need-loop-holds Inv-loop μ-loop
 unfolding flatMap
-loop-holds c = (omega arith, omega arith, refl, c .before .good .0 .1 .0 .1, gathered-none 120 0)
+loop-holds c = (omega arith, omega arith, refl, c .before .good .0 .1 .0 .1, gathered-none pairBytePlaces 0)
 
 mul-p : tie.Need-mul-p Inv-loop μ-loop
 mul-p c = omega arith
@@ -70,7 +71,7 @@ loop-again c =
 returns : tie.Need-returns Inv-loop μ-loop
 unfolding pairBytes
 returns c =
-    let e : min (c .before .before .before .args .n) 40 ≡ c .before .loop .i = omega arith in
+    let e : min (c .before .before .before .args .n) mostOutputs ≡ c .before .loop .i = omega arith in
     rw e (c .before .loop .inv .4 .holds)
 
 pub bytes-of-spec : {M : Type 1} → statement M

@@ -1,6 +1,7 @@
 -- `boundary_records::record::known` meets its contract. The loop's invariant: the laws passed are known. Assumes nothing.
 use Prim.Native.Nat.{_-_, _≤_}
 use mathlib.Core.Path.{_≡_, sym, _∙_}
+use Rattle.boundary_records.specs.Places.{mostOutputs}
 use Rattle.boundary_records.specs.Records.{known}
 use Rattle.boundary_records.proofs.Known.{lawsFrom, laws-all, laws-none, kind-known, kind-unknown, law-unknown, law-known}
 use native.Mathlib.Omega.{arith}
@@ -8,10 +9,10 @@ use Rattle.boundary_records.proofs.record.known.Statement.{statement}
 use Rattle.boundary_records.proofs.record.known.Tie as tie
 
 abbrev Inv-loop : tie.InvT-loop
-Inv-loop kind bytes i₀ i = (i ≤ 40) × (known kind bytes ≡ lawsFrom bytes i)
+Inv-loop kind bytes i₀ i = (i ≤ mostOutputs) × (known kind bytes ≡ lawsFrom bytes i)
 
 abbrev μ-loop : tie.MeasureT-loop
-μ-loop kind bytes i₀ i = 40 - i
+μ-loop kind bytes i₀ i = mostOutputs - i
 
 returns : tie.Need-returns Inv-loop μ-loop
 returns c = sym (kind-unknown _ _ (c .if1 .taken))

@@ -4,6 +4,7 @@ use mathlib.Core.Path.{_≡_, refl}
 use mathlib.Core.List.{flatMap}
 use lib.Ieee.{ofBits}
 use lib.ListN.{length, take, length-set}
+use Rattle.boundary_records.specs.Places.{mostOutputs, pairFloatPlaces}
 use Rattle.boundary_records.specs.Records.{numbersOf, pairNumbers}
 use Rattle.lists.proofs.Filled.{Gathered, gathered-none}
 use Rattle.float_order.specs.Values.{+0}
@@ -14,7 +15,7 @@ use Rattle.boundary_records.proofs.record.numbers_of.Statement.{stateme
 use Rattle.boundary_records.proofs.record.numbers_of.Tie as tie
 
 abbrev Inv-loop : tie.InvT-loop
-Inv-loop n ps m to₀ i₀ to i = (i ≤ m) × (m ≤ 40) × (length to ≡ 240) × (length ps ≡ 40) × Gathered 240 +0 (flatMap numbersOf (take i ps)) to (i * 6)
+Inv-loop n ps m to₀ i₀ to i = (i ≤ m) × (m ≤ mostOutputs) × (length to ≡ pairFloatPlaces) × (length ps ≡ mostOutputs) × Gathered pairFloatPlaces +0 (flatMap numbersOf (take i ps)) to (i * 6)
 
 abbrev μ-loop : tie.MeasureT-loop
 μ-loop n ps m to₀ i₀ to i = m - i
@@ -24,7 +25,7 @@ least-requires c κs = search needs
 
 loop-holds : tie.Need-loop-holds Inv-loop μ-loop
 unfolding flatMap ofBits
-loop-holds c = (omega arith, omega arith, refl, c .before .good .0 .1 .0 .1, gathered-none 240 +0)
+loop-holds c = (omega arith, omega arith, refl, c .before .good .0 .1 .0 .1, gathered-none pairFloatPlaces +0)
 
 mul-p : tie.Need-mul-p Inv-loop μ-loop
 mul-p c = omega arith
@@ -120,7 +121,7 @@ loop-again c =
 returns : tie.Need-returns Inv-loop μ-loop
 unfolding pairNumbers
 returns c =
-    let e : min (c .before .before .before .args .n) 40 ≡ c .before .loop .i = omega arith in
+    let e : min (c .before .before .before .args .n) mostOutputs ≡ c .before .loop .i = omega arith in
     rw e (c .before .loop .inv .4 .holds)
 
 pub numbers-of-spec : {M : Type 1} → statement M

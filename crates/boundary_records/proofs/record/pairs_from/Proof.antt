@@ -7,6 +7,7 @@ use lib.ListN.{length, length-set}
 use Rattle.lists.specs.Lists.{range}
 use Rattle.lists.proofs.Filled.{Gathered}
 use Rattle.layout_planar.specs.Planar.{noPair}
+use Rattle.boundary_records.specs.Places.{mostOutputs}
 use Rattle.boundary_records.specs.Records.{pairFrom}
 use Rattle.boundary_records.proofs.Pairs.{pairs-none, pair-made, pairs-more, pairs-all}
 use borrow.Author.Needs.{needs}
@@ -15,10 +16,10 @@ use Rattle.boundary_records.proofs.record.pairs_from.Statement.{stateme
 use Rattle.boundary_records.proofs.record.pairs_from.Tie as tie
 
 abbrev Inv-loop : tie.InvT-loop
-Inv-loop numbers bytes pairs₀ i₀ pairs i = (i ≤ 40) × (length pairs ≡ 40) × Gathered 40 noPair (map (pairFrom numbers bytes) (range i)) pairs i
+Inv-loop numbers bytes pairs₀ i₀ pairs i = (i ≤ mostOutputs) × (length pairs ≡ mostOutputs) × Gathered mostOutputs noPair (map (pairFrom numbers bytes) (range i)) pairs i
 
 abbrev μ-loop : tie.MeasureT-loop
-μ-loop numbers bytes pairs₀ i₀ pairs i = 40 - i
+μ-loop numbers bytes pairs₀ i₀ pairs i = mostOutputs - i
 
 loop-holds : tie.Need-loop-holds Inv-loop μ-loop
 unfolding ofBits

@@ -1,4 +1,5 @@
 -- `boundary_records::sessions::hand_out` meets its contract: the record, and behind it the session's own part. Assumes nothing.
+use Rattle.boundary_records.specs.Places.{recordBytePlaces, recordFloatPlaces}
 use Rattle.boundary_records.specs.Records.{recordBytes, recordFloats}
 use Rattle.boundary_records.specs.Sessions.{ownBytes, ownFloats, sessionBytes, sessionFloats}
 use Rattle.boundary_records.proofs.Laid.{whole-of}
@@ -24,8 +25,8 @@ returns c =
     let o = c .before .before .before .before .hand-out-own .ensures in
     let h = c .before .before .before .before .before .before .before .before .before .before .before .hand-out .ensures in
     let a = c .before .before .before .before .before .before .before .before .before .before .before .before .before .before .before .before .before .args in (
-      whole-of (recordBytes (a .s .panner)) (ownBytes (a .s)) (a .bytes .now) 1022 (h .1 .1 .0) (h .0) (o .0),
-      whole-of (recordFloats (a .s .panner)) (ownFloats (a .s)) (a .floats .now) 1080 (h .1 .1 .1) (h .1 .0) (o .1),
+      whole-of (recordBytes (a .s .panner)) (ownBytes (a .s)) (a .bytes .now) recordBytePlaces (h .1 .1 .0) (h .0) (o .0),
+      whole-of (recordFloats (a .s .panner)) (ownFloats (a .s)) (a .floats .now) recordFloatPlaces (h .1 .1 .1) (h .1 .0) (o .1),
     )
 
 pub hand-out-spec : {M : Type 1} → statement M

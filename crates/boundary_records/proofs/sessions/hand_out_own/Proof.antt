@@ -1,6 +1,8 @@
 -- `boundary_records::sessions::hand_out_own` meets its contract: its parts are laid behind the record's. Assumes nothing.
 use mathlib.Core.Path.{refl}
 use mathlib.Core.List.{[], _∷_}
+use Rattle.mix_block.specs.Inner.Turns.{mostSources}
+use Rattle.boundary_records.specs.Places.{recordBytePlaces, recordFloatPlaces, startPlaces, standingPlaces}
 use Rattle.boundary_records.specs.Sessions.{ownBytes, ownFloats}
 use Rattle.boundary_records.proofs.Laid.{laid-own}
 use native.Mathlib.Omega.{arith}
@@ -27,8 +29,8 @@ returns c =
     let pre = c .before .before .before .before .before .before .before .before .before .before .before .before .before .pre in
     let n = c .before .before .before .before .before .before .before .before .put-counts .ensures in
     let r = c .before .before .put-rows .ensures in (
-      laid-own (a .bytes .now) (a .s .sources ∷ []) (a .s .counts) 1022 1 8 (omega (arith, pre .0)) refl (n .1) (pre .0) (n .0),
-      laid-own (a .floats .now) (a .s .starts) (a .s .standing) 1080 320 256 (omega (arith, pre .1)) (r .1 .0) (r .1 .1) (pre .1) (r .0),
+      laid-own (a .bytes .now) (a .s .sources ∷ []) (a .s .counts) recordBytePlaces 1 mostSources (omega (arith, pre .0)) refl (n .1) (pre .0) (n .0),
+      laid-own (a .floats .now) (a .s .starts) (a .s .standing) recordFloatPlaces startPlaces standingPlaces (omega (arith, pre .1)) (r .1 .0) (r .1 .1) (pre .1) (r .0),
     )
 
 pub hand-out-own-spec : {M : Type 1} → statement M
