@@ -1,4 +1,4 @@
-//! Prints README's table of times: ours, the source with document 01's stand-ins, and the source on
+//! Prints the table of times of docs/SPEED.md: ours, the source with document 01's stand-ins, and the source on
 //! the platform's library, over the same inputs in the same run.
 
 mod layouts;

@@ -198,7 +198,7 @@ pub fn gains(r: &Record, az: f32, el: f32, out: &mut [f32]) -> u32 {
     unsafe { panner_gains(bytes, floats, az, el, to, out.len()) }
 }
 
-/// A row for each direction, `width` places each; the record is taken in once.
+/// A row for each direction, `width` places each; the record is read once.
 pub fn gains_all(r: &Record, az: &[f32], el: &[f32], width: usize, out: &mut [f32]) -> u32 {
     unsafe {
         panner_gains_all(

@@ -180,7 +180,7 @@ pub fn by_hand(r: &mut Random) -> Panner {
     }
 }
 
-/// Arrays that stand for no record, by a kind or a law: 11 from every call, nothing touched.
+/// Arrays with an unknown kind or law: 11 from every call, every array unchanged.
 fn no_record(r: &mut Random, record: &Panner) -> Result<(), String> {
     let mut a = arrays(record);
     if r.below(2) == 0 {

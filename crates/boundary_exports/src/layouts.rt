@@ -1,4 +1,4 @@
-// Layouts: `new`, whose record is handed out in two lent arrays, and the calls on such a record. A session's arrays begin with its record's.
+// Layouts: `new`, whose record is written to two arrays of the caller, and the calls on such a record. A session's arrays begin with its record's.
 ghost use mathlib.Core.Path.{_≡_};
 ghost use Rattle.layout_new.specs.Layout.{newOf};
 ghost use Rattle.layout_record.specs.Malformed.{numOutputsOf};
@@ -73,7 +73,7 @@ pub extern "C" fn panner_gains(
     row_gains::gains(p, az, el, out)
 }
 
-// A row for each direction, `width` places each; the record is taken in once. Of NaNs as `panner_gains`.
+// A row for each direction, `width` places each; the record is read once. Of NaNs as `panner_gains`.
 #[no_mangle]
 pub extern "C" fn panner_gains_all(
     bytes: &RecordBytes,

@@ -107,7 +107,7 @@ pub extern "C" fn panner_render(
     leave(r, bytes, floats)
 }
 
-// For each direction a place and a take back, up to the first that is refused, on a session that is taken in once; nothing is written where one is.
+// For each direction a place and a take back, up to the first that is refused, on a session that is read once; where one is refused, nothing is written.
 #[no_mangle]
 pub extern "C" fn panner_place_take_back_all(
     bytes: &mut SessionBytes,

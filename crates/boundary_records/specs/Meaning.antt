@@ -1,4 +1,4 @@
--- Document 01, "Returned numbers" (11), and docs/DECISIONS.md, "The boundary": what the lent arrays are taken for. Assumes nothing.
+-- Document 01, "Returned numbers" (11), and docs/DECISIONS.md, "The boundary": what record or session two arrays of the caller hold. Assumes nothing.
 use Prim.Native.Nat.{ℕ, min}
 use mathlib.Core.Path.{_≡_}
 use mathlib.Core.Bool.{true, false}
@@ -18,7 +18,7 @@ use Rattle.boundary_records.specs.Places.{mostOutputs, mostImaginary, he
 use Rattle.boundary_records.specs.Records.{section, known, recordBytes, recordFloats, recordFrom}
 use Rattle.boundary_records.specs.Sessions.{sessionBytes, sessionFloats, sessionFrom, bytesLeft, floatsLeft}
 
--- where a kind or a law is none, every call refuses with 11
+-- where the kind or a law is unknown, every call refuses with 11
 abbrev pub UnknownMalformed : Type 0
 UnknownMalformed =
     (bytes : List ℕ) (floats : List Float) → known (getD bytes 1 0) (section headPlaces pairBytePlaces bytes) ≡ false
@@ -41,7 +41,7 @@ pub record WholeSession (s : Session) : Type 0 where
   pub standing : length (s .standing) ≡ standingPlaces
   pub starts : length (s .starts) ≡ startPlaces
 
--- such a record, handed out and taken in, is the same
+-- such a record, written to its arrays and read from them, is the same
 abbrev pub HandedBack : Type 0
 HandedBack = (v : VbapPanner) → Whole v → recordFrom (recordBytes v) (recordFloats v) ≡ v
 
@@ -49,7 +49,7 @@ HandedBack = (v : VbapPanner) → Whole v → recordFrom (recordBytes v) (record
 abbrev pub SessionHandedBack : Type 0
 SessionHandedBack = (s : Session) → WholeSession s → sessionFrom (sessionBytes s) (sessionFloats s) ≡ s
 
--- what an accepted call on a session leaves in its arrays is taken in as the session that it answers; the lengths are those of the arrays' types
+-- after an accepted call the session's arrays, read, give the session that the call answers; the lengths are those of the arrays' types
 abbrev pub LeftTakenIn : Type 0
 LeftTakenIn =
     (bytes : List ℕ) (floats : List Float) (a : Answer) → length bytes ≡ sessionBytePlaces → length floats ≡ sessionFloatPlaces → a .number ≡ 0 → a .session .panner ≡ recordFrom bytes floats

@@ -15,7 +15,7 @@ use Rattle.layout_record.specs.declared.Kind.the-variants.{Silent, Mono, Planar
 use Rattle.layout_record.specs.declared.VbapPanner.{VbapPanner}
 use Rattle.boundary_records.specs.Places.{mostOutputs, mostImaginary, headPlaces, pairBytePlaces, slotsAt, outAt, idxAt, idxPlaces, countsOfNbrsAt, nbrsAt, nbrPlaces, pairFloatPlaces, dirPlaces, invAt, invPlaces}
 
--- ---- handed out
+-- ---- written to the arrays
 
 abbrev pub kindNumber : Kind → ℕ
 kindNumber Silent = 0
@@ -65,7 +65,7 @@ recordBytes p =
 unfoldable pub recordFloats : VbapPanner → List Float
 recordFloats p = pairNumbers (p .«num_pairs») (p .pairs) ++ p .«pt_dir» ++ p .inv
 
--- ---- taken in
+-- ---- read from the arrays
 
 -- the kind of a number up to 3, and the law of a number up to 1
 unfoldable pub kindFrom : ℕ → Kind
@@ -90,7 +90,7 @@ pairFrom numbers bytes i =
 unfoldable pub known : ℕ → List ℕ → Bool
 known kind bytes = ltb kind 4 && every (λ i. ltb (getD bytes (i * 3 + 2) 0) 2) (range mostOutputs)
 
--- the outputs of what is no record: more than there may be. Origin: the greatest byte
+-- the outputs of arrays with an unknown kind or law: more than there may be. Origin: the greatest byte
 abbrev pub noRecord : ℕ
 noRecord = 255
 
@@ -98,7 +98,7 @@ noRecord = 255
 abbrev pub section : {A : Type 0} → ℕ → ℕ → List A → List A
 section i n l = take n (drop i l)
 
--- the record in the first places of the arrays. Where a kind or a law is none its outputs are too many, so that every call refuses it with 11 (unknown-malformed)
+-- the record in the first places of the arrays. Where the kind or a law is unknown its outputs are too many, so that every call refuses it with 11 (unknown-malformed)
 unfoldable pub recordFrom : List ℕ → List Float → VbapPanner
 recordFrom bytes floats =
     record {

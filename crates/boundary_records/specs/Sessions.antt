@@ -13,7 +13,7 @@ use Rattle.mix_block.specs.Inner.Turns.{mostSources}
 use Rattle.boundary_records.specs.Places.{recordBytePlaces, recordFloatPlaces, countsAt, startPlaces, standingAt, standingPlaces}
 use Rattle.boundary_records.specs.Records.{recordBytes, recordFloats, section, recordFrom}
 
--- ---- handed out: the record's places, and behind them the session's own
+-- ---- written to the arrays: the record's places, and behind them the session's own
 
 unfoldable pub ownBytes : Session → List ℕ
 ownBytes s = s .sources ∷ s .counts
@@ -27,7 +27,7 @@ sessionBytes s = recordBytes (s .panner) ++ ownBytes s
 unfoldable pub sessionFloats : Session → List Float
 sessionFloats s = recordFloats (s .panner) ++ ownFloats s
 
--- ---- taken in
+-- ---- read from the arrays
 
 unfoldable pub sessionFrom : List ℕ → List Float → Session
 sessionFrom bytes floats =

@@ -1,4 +1,4 @@
-// A record in two lent arrays, handed out and taken in. The kind is a number there, and so is the law of each pair.
+// A record in two arrays of the caller: written to them and read from them. The kind is a number there, and so is the law of each pair.
 //
 // Its bytes: the head, the pairs' bytes, the slots, the points' slots, the triplets' point numbers, the counts of neighbours, the neighbours.
 // Its floats: the pairs' numbers, the points' directions, the triplets' inverses.
@@ -77,10 +77,10 @@ pub type RecordBytes = [u8; BYTES];
 
 pub type RecordFloats = [f32; FLOATS];
 
-// The outputs of what is no record: too many, so that every call refuses it with 11. Origin: the greatest byte.
+// The outputs of arrays with an unknown kind or law: too many, so that every call refuses them with 11. Origin: the greatest byte.
 const NO_RECORD: u8 = 255;
 
-// ---- handed out
+// ---- written to the arrays
 
 // Silent, mono, planar, hull.
 fn kind_number(kind: Kind) -> u8
@@ -237,7 +237,7 @@ pub fn hand_out(p: VbapPanner, bytes: &mut [u8], floats: &mut [f32])
     put_floats(pair_numbers, pt_dir, inv, floats);
 }
 
-// ---- taken in
+// ---- read from the arrays
 
 // Silent, mono, planar, hull.
 fn kind_from(n: u8) -> Kind
@@ -282,7 +282,7 @@ fn known(kind: u8, bytes: [u8; PAIR_BYTES]) -> bool
     true
 }
 
-// The outputs, where there is a record.
+// The outputs, where kind and laws are known.
 fn outputs_from(is_known: bool, n: u8) -> u8
     ensures { λ r. ⌜ r ≡ cond «is_known» n noRecord ⌝ }
 {
@@ -328,7 +328,7 @@ fn pairs_from(numbers: [f32; PAIR_FLOATS], bytes: [u8; PAIR_BYTES]) -> [PlanarPa
     pairs
 }
 
-// The record in the first places of the arrays; one with too many outputs where a kind or a law is none.
+// The record in the first places of the arrays; one with too many outputs where the kind or a law is unknown.
 pub fn taken_in(bytes: &[u8], floats: &[f32]) -> VbapPanner
     requires { ⌜ (recordBytePlaces ≤ length (now bytes)) × (recordFloatPlaces ≤ length (now floats)) ⌝ }
     ensures { λ r. ⌜ r ≡ recordFrom (now (bytes .entry)) (now (floats .entry)) ⌝ }

@@ -36,7 +36,7 @@ pub type SessionBytes = [u8; BYTES];
 
 pub type SessionFloats = [f32; FLOATS];
 
-// The session that the arrays stand for.
+// The session in the arrays.
 pub fn taken_in(bytes: &[u8], floats: &[f32]) -> Session
     requires { ⌜ (length (now bytes) ≡ sessionBytePlaces) × (length (now floats) ≡ sessionFloatPlaces) ⌝ }
     ensures { λ r. ⌜ r ≡ sessionFrom (now (bytes .entry)) (now (floats .entry)) ⌝ }
@@ -102,7 +102,7 @@ pub fn hand_out(s: Session, bytes: &mut [u8], floats: &mut [f32])
     hand_out_own(s, bytes, floats);
 }
 
-// The answer of a call on a session that was taken in: its number, and what it made where it is accepted. A call leaves the layout as it is.
+// The answer of a call on a session that was read from the arrays: its number, and the session's own part where it is accepted. A call leaves the layout as it is.
 pub fn leave(a: Answer, bytes: &mut [u8], floats: &mut [f32]) -> u32
     requires { ⌜ (length (now bytes) ≡ sessionBytePlaces) × (length (now floats) ≡ sessionFloatPlaces) ⌝ }
     ensures number { λ r. ⌜ r ≡ a .number ⌝ }

@@ -1,4 +1,4 @@
--- Laws of the sides of a plane: what each point leaves of them, from the last point on. A test of every element does not depend on the order in which they are tested. Assumes nothing.
+-- Laws of the sides of a plane without a point, looked for from the last point on. A test of every element does not depend on the order in which they are tested. Assumes nothing.
 use Prim.Native.Nat.{ℕ, _+_, _≤_, _<_, zero-le}
 use mathlib.Core.Path.{_≡_, refl, sym, ap, _∙_}
 use mathlib.Core.Bool.{Bool, true, false, _&&_, _||_, not, cond}

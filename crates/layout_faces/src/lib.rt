@@ -56,7 +56,7 @@ pub fn height(pts: &[f64; 162], nrm: [f64; 3], d: f64, p: usize) -> f64
     vector::dot(nrm, vector::point(pts, p)) - d
 }
 
-// What point p, unless it is of the triple, leaves of s.
+// The sides without a point, from s, once point p is looked at too. A corner of the triple changes nothing.
 fn beside(
     pts: &[f64; 162],
     i: usize,

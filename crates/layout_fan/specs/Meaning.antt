@@ -1,4 +1,4 @@
--- Document 01, "Layout", the paragraph "Hull", and "Tempting but wrong" ("dividing a ring of coplanar speakers more than once"); source line 317 ("canonical fan triangulation from its lowest index"): what test 4 of a triple leaves of points in one plane. They are divided once, as a fan from their lowest number.
+-- Document 01, "Layout", the paragraph "Hull", and "Tempting but wrong" ("dividing a ring of coplanar speakers more than once"); source line 317 ("canonical fan triangulation from its lowest index"): which triples of points in one plane pass test 4. The points are divided once, as a fan from their lowest number.
 -- This holds of points that all their triples see alike. Triples of a nearly flat face may disagree on what is flat: docs/RATIONALE.md, finding 3.
 -- Proved: `FanMeaning` by `fan-meaning` in proofs/Meaning.antt, `FanCount` by `fan-count` in proofs/Rings.antt. Crate layout_hull states it of the list of triplets and computes an example (specs/Divided.antt). Assumes nothing.
 use Prim.Native.Nat.{ℕ, _-_, _<_, min, max}

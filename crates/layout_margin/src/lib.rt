@@ -1,1 +1,1 @@
-// How far over a plane a point must stand before its normal is scaled, so that it stands over it afterwards too: laws that other crates cite. It has no code.
+// When a face can be ruled out without a square root: a point far enough over a plane, by the normal before it is scaled to length 1, is over it by the scaled normal too. Laws that other crates cite; it has no code.

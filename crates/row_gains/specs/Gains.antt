@@ -35,7 +35,7 @@ gainsOf l az el buffer =
     let n = min (l .outputs) (length buffer) in
     rowOf l n az el ++ drop n buffer
 
--- ---- by the record: 11 for a malformed one, nothing touched; else 0
+-- ---- by the record: 11 for a malformed one, buffer unchanged; else 0
 
 unfoldable pub gainsNumber : VbapPanner → ℕ
 gainsNumber v = cond (malformedOf v) 11 0

@@ -31,7 +31,7 @@ fn lesser(a: usize, b: usize) -> usize
     if a < b { a } else { b }
 }
 
-// ---- a row by its kind: 11 for a number out of range, nothing touched; else 0, and every place of out is one of the row's.
+// ---- a row by its kind: 11 for a number out of range, buffer unchanged; else 0, and every place of out is one of the row's.
 
 fn mono(slot: u8, outputs: u8, out: &mut [f32]) -> u32
     ensures { λ r. ⌜ Checked (leb outputs slot) (set (replicate (length (now (out .entry))) +0) slot 1·0) (now (out .entry)) r (now (out .exit)) ⌝ }
@@ -114,7 +114,7 @@ fn hull(
     0
 }
 
-// `VbapPanner::gains`: 11 for a malformed record, nothing touched; else 0, and the row in the first of the places, as many as there are outputs.
+// `VbapPanner::gains`: 11 for a malformed record, buffer unchanged; else 0, and the row in the first of the places, as many as there are outputs.
 // Each field that is an array is copied where its kind is known, and handed on: the record itself is never copied.
 // Free to the program: the sign and payload of a NaN in a row of a record made by hand. Every choice is a NaN, and a quiet one, since every gain is computed. A record from `new` gives none (crate theorem_rows).
 pub fn gains(panner: VbapPanner, az: f32, el: f32, out: &mut [f32]) -> u32

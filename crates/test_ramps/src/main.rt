@@ -1,4 +1,4 @@
-// Replays a list of ramps and mixed gains from standard input: computes each with the functions of ramp, and compares bit by bit.
+// Replays a list of ramps and mixed gains from standard input: computes each with `mix_ramp::ramp_add` and `mix_gain::normalized_lerp_gain`, and compares bit by bit.
 // It writes the first five lines that differ or are malformed, how many cases there were of each function, and how many differed.
 mod arguments;
 mod report;

@@ -14,7 +14,7 @@ use Rattle.layout_faces.specs.declared.Face.the-variants.{Skip, Open, Ou
 unfoldable pub heightIn : List Float → Vector → Float → ℕ → Float
 heightIn flat nrm d p = sub binary64 (dotOf nrm (part 3 flat p)) d
 
--- what point p leaves of the sides without a point
+-- the sides without a point, from s, once point p is looked at too; a corner of the triple changes nothing
 unfoldable pub besideOf : List Float → ℕ → ℕ → ℕ → Vector → Float → ℕ → Sides → Sides
 besideOf flat i j k nrm d p s =
     let v = heightIn flat nrm d p in

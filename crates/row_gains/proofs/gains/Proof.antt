@@ -1,4 +1,4 @@
--- `row_gains::gains` meets its contract: a refusal touches nothing, and each kind's row fills the part that is lent. Assumes nothing.
+-- `row_gains::gains` meets its contract: a refusal leaves the buffer as it was, and each kind's row fills the part that is lent. Assumes nothing.
 use Rattle.row_gains.proofs.Rows.{row-silent, row-mono, row-planar, row-hull, counted-out, front-length, finished}
 use Rattle.layout_record.proofs.Numbers.{out-silent, out-mono, out-planar, out-hull}
 use Rattle.layout_record.proofs.Counts.{within}

@@ -1,4 +1,4 @@
--- What a row by its kind answers: 11 for a slot or point number out of range, and nothing touched; else 0 and the row. Assumes nothing.
+-- What a row by its kind answers: 11 for a slot or point number out of range, buffer unchanged; else 0 and the row. Assumes nothing.
 use Prim.Native.Nat.{ℕ}
 use mathlib.Core.Path.{_≡_}
 use mathlib.Core.Bool.{Bool, cond}
