@@ -8,7 +8,7 @@ use lib.Ieee.{Float}
 use Rattle.layout_record.specs.declared.VbapPanner.{VbapPanner}
 use Rattle.row_gains.specs.Gains.{gainsBuffer}
 
--- a row for each azimuth with its elevation, into the buffer's next w places, while there are so many
+-- a row for each azimuth with its elevation, into the buffer's next w places, as long as w places are left
 unfoldable pub rowsOf : VbapPanner → List Float → List Float → ℕ → List Float → List Float
 rowsOf p [] el w buffer = buffer
 rowsOf p (a ∷ az) [] w buffer = buffer

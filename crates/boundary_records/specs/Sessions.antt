@@ -41,7 +41,7 @@ sessionFrom bytes floats =
 
 -- ---- what a call leaves in a lent place
 
--- what was made where the number is 0, and what stood there beside a refusal
+-- the new value where the number is 0, and the old one beside a refusal
 abbrev pub written : {A : Type 0} → ℕ → A → A → A
 written number made before = cond (eqb number 0) made before
 

@@ -1,4 +1,4 @@
--- Document 01, "Layout", the paragraph "Hull" ("A triple i < j < k is kept or skipped by the tests of `hull_triplets`, in their order"); source lines 258 to 306: the tests of a triple for a face of the hull, 1 to 3 of 5. The others stand in crates fan and hull.
+-- Document 01, "Layout", the paragraph "Hull" ("A triple i < j < k is kept or skipped by the tests of `hull_triplets`, in their order"); source lines 258 to 306: the tests of a triple for a face of the hull, 1 to 3 of 5. The others stand in crates layout_fan and layout_hull.
 -- A point is a vector in 64 bits; points are told by their numbers in a list, the real ones first. Assumes nothing.
 use Prim.Native.Nat.{ℕ}
 use mathlib.Core.Bool.{Bool, _||_, not, cond}
