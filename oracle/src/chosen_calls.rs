@@ -2,7 +2,7 @@
 //! what each call leaves. The numbers beside the calls are document 01's.
 
 use crate::call_line::{Asked, Writer};
-use crate::chosen_layouts::{nine_imaginary, open_hull, ten_imaginary};
+use crate::chosen_layouts::{fourteen_imaginary, nine_imaginary, open_hull, ten_imaginary};
 use crate::edges::{Position, F, RIGHT, TOP};
 use crate::layout_line::Layout;
 use crate::layouts::{front, repeated, ring};
@@ -328,6 +328,20 @@ fn ends(w: &mut Writer) {
         (render(1, 35, 3, 4), 0),
         (TakeBack { source: 0 }, 0),
         (render(1, 35, 3, 7), 0),
+    ]);
+    w.end();
+    w.opens(
+        &layout("open hull, fourteen imaginary", &fourteen_imaginary()),
+        1,
+        0,
+    );
+    w.gives(&[
+        (place(0, 0.3, 0.2), 0),
+        (render(1, 38, 3, 1), 0),
+        (place(0, -2.4, 0.6), 0),
+        (render(1, 38, 3, 4), 0),
+        (TakeBack { source: 0 }, 0),
+        (render(1, 38, 3, 7), 0),
     ]);
     w.end();
 }

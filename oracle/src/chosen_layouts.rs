@@ -687,9 +687,58 @@ const GROUPS: [[u32; 3]; 35] = [
     [0xbf55_2f14, 0x3f55_2f0e, 0xbf55_2f0c],
 ];
 
-/// The layout with the most imaginary speakers that was found; its hull is open at the end.
+/// The layout with ten imaginary speakers; its hull is open at the end.
 pub fn ten_imaginary() -> Vec<Position> {
     GROUPS.iter().map(|p| p.map(f32::from_bits)).collect()
+}
+
+/// Six groups of speakers, each within 4e-6 of a place that is no candidate, that lose every face of
+/// every list: all fourteen candidates become imaginary speakers, and the hull is still open. Origin:
+/// searched, places first, then one group after the other (docs/RATIONALE.md, section 2).
+const SIX_GROUPS: [[u32; 3]; 38] = [
+    [0xc029_81d9, 0xbfe0_c5c3, 0x3fdf_0ec0],
+    [0xc005_ade2, 0xbfb1_4367, 0x3faf_e931],
+    [0xbfed_7095, 0xbf9d_6d4d, 0x3f9c_39d3],
+    [0xbfce_1db4, 0xbf88_a895, 0x3f87_9da9],
+    [0xc017_92f3, 0xbfc8_fe11, 0x3fc7_7578],
+    [0xc037_ac95, 0xbff3_8f09, 0x3ff1_b359],
+    [0xbfcb_cd22, 0xbf87_1fae, 0x3f86_17c9],
+    [0xbfb1_f579, 0xbf6b_fae6, 0x3f6a_2e07],
+    [0xc02b_0294, 0xbfe2_c40d, 0x3fe1_0921],
+    [0xbf82_f3b4, 0xbf88_14aa, 0xbfcf_a593],
+    [0xbfe8_ddfd, 0xbff1_fcc3, 0xc038_a018],
+    [0xbfcd_3010, 0xbfd5_394d, 0xc022_ae1e],
+    [0xbf3a_fe26, 0xbf42_5100, 0xbf94_412e],
+    [0xbf4e_94d0, 0xbf56_ac16, 0xbfa3_c8ff],
+    [0xbf86_828c, 0xbf8b_c72e, 0xbfd5_49be],
+    [0x3fb4_000f, 0xbf99_4b84, 0xbf99_a919],
+    [0x400b_9c31, 0xbfed_cb5f, 0xbfee_5c8d],
+    [0x3f92_e8f9, 0xbf7a_3a67, 0xbf7a_d332],
+    [0x3fe4_2826, 0xbfc2_4e95, 0xbfc2_c530],
+    [0x3f9a_3ceb, 0xbf83_5ad8, 0xbf83_ab04],
+    [0x3f60_8758, 0xbf3f_37f0, 0xbf3f_aca6],
+    [0x3fb9_675a, 0x4030_0fdd, 0xbfb5_e068],
+    [0x3ee7_bfb6, 0x3f5c_1276, 0xbee3_5711],
+    [0x3f95_e79b, 0x400e_5a0d, 0xbf93_0d93],
+    [0x3f3f_db4f, 0x3fb6_3094, 0xbf3c_34eb],
+    [0x3f11_fa72, 0x3f8a_9f6b, 0xbf0f_3383],
+    [0x3f53_a682, 0x3fc8_fc75, 0xbf4f_9fb3],
+    [0xbfd5_21cf, 0x4025_635c, 0x3fdb_52f7],
+    [0xbf40_52b0, 0x3f95_3d92, 0x3f45_e90e],
+    [0xbef6_023a, 0x3f3e_e669, 0x3efd_27ec],
+    [0xbfd9_c2d3, 0x4028_faee, 0x3fe0_1672],
+    [0xbfb7_ff4c, 0x400e_c7aa, 0x3fbd_57c0],
+    [0xbfe3_d52b, 0x4030_cb95, 0x3fea_739f],
+    [0x3f11_e264, 0xbf0f_880d, 0x3f93_143c],
+    [0x3f6a_3c9f, 0xbf66_757a, 0x3fec_27b7],
+    [0x3f76_a77d, 0xbf72_ad0a, 0x3ff8_ac9c],
+    [0x3efa_e897, 0xbef6_dc98, 0x3f7c_f683],
+    [0x3f96_57e3, 0xbf93_eb2a, 0x4017_931a],
+];
+
+/// The layout whose loop ends with fourteen imaginary speakers and an open hull.
+pub fn fourteen_imaginary() -> Vec<Position> {
+    SIX_GROUPS.iter().map(|p| p.map(f32::from_bits)).collect()
 }
 
 /// The loop's ends beside the closed hull, and what lies next to them.
@@ -761,6 +810,14 @@ pub fn ends() -> Vec<Layout> {
         let gone = fewer.remove(n);
         all.push(layout(format!("open hull without its {gone:?}"), &fewer));
     }
+    all.push(layout(
+        "open hull, fourteen imaginary",
+        &fourteen_imaginary(),
+    ));
+    all.push(layout(
+        "open hull, fourteen imaginary, without its last",
+        &fourteen_imaginary()[..37],
+    ));
     all
 }
 

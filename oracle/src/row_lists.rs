@@ -1,7 +1,8 @@
 //! The lists of rows: which layouts and records, and how many rows of each.
 
 use crate::chosen_layouts::{
-    ends, five_around, houses, nine_imaginary, open_hull, raised_centre, rounded, ten_imaginary,
+    ends, five_around, fourteen_imaginary, houses, nine_imaginary, open_hull, raised_centre,
+    rounded, ten_imaginary,
 };
 use crate::edges::{Position, BACK, F, LEFT, RIGHT, TOP};
 use crate::layout_line::Layout;
@@ -192,6 +193,10 @@ fn closing_ends() -> Vec<(Layout, Vec<Direction>)> {
         ),
         (
             Layout::new("open hull, ten imaginary", &ten_imaginary(), &[]),
+            around.clone(),
+        ),
+        (
+            Layout::new("open hull, fourteen imaginary", &fourteen_imaginary(), &[]),
             around,
         ),
     ]

@@ -5,11 +5,13 @@ use super::{
     best_gain, built, change, degrees, direction, print_cover, row, stored, summary, DIRECTIONS,
     HOLE, SEED,
 };
-use crate::chosen_layouts::{corners, ends, nine_imaginary, open_hull, ten_imaginary, AXES};
+use crate::chosen_layouts::{
+    corners, ends, fourteen_imaginary, nine_imaginary, open_hull, ten_imaginary, AXES,
+};
 use crate::edges::Position;
 use crate::layout_line::Layout;
 use crate::layouts::opened;
-use crate::open_hulls::{doubled_candidates, rule_against_source};
+use crate::open_hulls::{candidates, doubled_candidates, rule_against_source, Place};
 use crate::random::Random;
 use crate::record::Kind;
 use crate::source::take_lists;
@@ -26,6 +28,47 @@ fn print_end(name: &str, positions: &[Position]) {
         given.refusal,
         summary(&given.panner)
     );
+}
+
+/// A speaker's direction in 64 bits.
+fn direction_of(p: &Position) -> Place {
+    let v = p.map(f64::from);
+    let length = v.iter().map(|x| x * x).sum::<f64>().sqrt();
+    v.map(|x| x / length)
+}
+
+fn dot(a: &Place, b: &Place) -> f64 {
+    a.iter().zip(b).map(|(x, y)| x * y).sum()
+}
+
+/// The groups of speakers that nearly coincide, in the order of the list: how many, the greatest
+/// distance within it, its first direction, and how far off the nearest candidate is.
+fn print_groups(positions: &[Position]) {
+    let apart = |a: &Place, b: &Place| {
+        let square: f64 = a.iter().zip(b).map(|(x, y)| (x - y) * (x - y)).sum();
+        square.sqrt()
+    };
+    let mut groups: Vec<Vec<Place>> = Vec::new();
+    for d in positions.iter().map(direction_of) {
+        match groups.iter_mut().find(|g| apart(&g[0], &d) < 1e-4) {
+            Some(group) => group.push(d),
+            None => groups.push(vec![d]),
+        }
+    }
+    for g in &groups {
+        let pairs = g.iter().flat_map(|a| g.iter().map(move |b| (a, b)));
+        let widest = pairs.map(|(a, b)| apart(a, b)).fold(0.0, f64::max);
+        let nearest = candidates()
+            .iter()
+            .map(|c| dot(c, &g[0]))
+            .fold(-1.0, f64::max);
+        println!(
+            "    a group of {} at {:.4?}, {widest:.2e} wide, {:.2} degrees from the nearest candidate",
+            g.len(),
+            g[0],
+            nearest.acos() * 180.0 / PI64
+        );
+    }
 }
 
 /// The slots of a row that are not +0, with their gains.
@@ -178,6 +221,14 @@ pub fn report() {
         println!("    it plays at ({az}, {el}): {:?}", sounding(&gains));
     }
     print_end("without its last speaker", &ten_imaginary()[..34]);
+    print_end("open, fourteen imaginary speakers", &fourteen_imaginary());
+    print_groups(&fourteen_imaginary());
+    let groups = built(&fourteen_imaginary());
+    for (az, el) in [(17.188734, 11.459156), (45.0, 30.0), (0.0, 90.0)] {
+        let gains = row(&groups, degrees(az), degrees(el), 38);
+        println!("    it plays at ({az}, {el}): {:?}", sounding(&gains));
+    }
+    print_end("without its last speaker", &fourteen_imaginary()[..37]);
     open_rows();
     beside();
     copies();
