@@ -16,6 +16,10 @@ use Rattle.mix_block.specs.Inner.Turns.{rowPlaces, rampPart}
 pub part-end : (i n len : ℕ) → i < n → i * len + len ≤ n * len
 part-end i n len h = rw (← suc-mul i len) (mul-le-mul-right len h)
 
+-- and within a buffer of n parts
+pub part-in : (i n len : ℕ) {whole : ℕ} → i < n → whole ≡ n * len → i * len + len ≤ whole
+part-in i n len h e = rw e (part-end i n len h)
+
 -- the part of slot o comes back ramped
 pub part-back : (L : ℕ) (samples from to : List Float) (i : ℕ) (out ys : List Float) (o : ℕ)
     → ys ≡ rampAddOf (midOf (o * L) (o * L + L - o * L) out) (midOf (i * L) (i * L + L - i * L) samples) (getD from (i * rowPlaces + o) nan) (getD to (i * rowPlaces + o) nan)

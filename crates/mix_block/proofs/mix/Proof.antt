@@ -8,7 +8,7 @@ use lib.ListN.{length}
 use Rattle.lists.specs.Lists.{range}
 use Rattle.mix_ramp.proofs.Turns.{turns-none, turns-more}
 use Rattle.mix_block.specs.Inner.Turns.{rampSource}
-use Rattle.mix_block.proofs.Parts.{part-end}
+use Rattle.mix_block.proofs.Parts.{part-in}
 use Rattle.mix_block.proofs.mix.Statement.{statement}
 use Rattle.mix_block.proofs.mix.Tie as tie
 
@@ -28,7 +28,7 @@ mix-source-requires c κs =
     let s = a .before .before .before in (
       s .pre .0,
       omega (arith, s .pre .1, c .before .loop-test .taken),
-      omega (arith, part-end (a .loop .i) (s .args .sources) (s .args .block) (c .before .loop-test .taken), s .pre .2),
+      part-in _ (s .args .sources) (s .args .block) (omega (arith, c .before .loop-test .taken)) (s .pre .2),
       a .loop .inv .1 ∙ s .pre .3,
     )
 
