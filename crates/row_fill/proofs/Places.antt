@@ -17,7 +17,7 @@ use Rattle.row_fill.proofs.Folds.{fold-none, fold-more}
 use Rattle.float_order.specs.Values.{+0, count32}
 use Rattle.float_root.specs.Root.{sqrtOf}
 use Rattle.float_order.specs.Order.{maxOf}
-use Rattle.row_planar.specs.PlanarRow.{addAt}
+use Rattle.row_places.specs.Places.{addAt}
 use Rattle.row_fill.specs.Inner.Filling.{toReal, toImag, isReal, realPoints, imagPoints, addEach, sharedBy, sharedAt, sharedOut, placed}
 
 -- ---- gains added in the places of slots

@@ -20,7 +20,7 @@ fn to_real(out: &mut [f32], slots: &[u8], n: usize, p: usize, g: f32)
     ensures { λ _. ⌜ now (out .exit) ≡ toReal (take n (now (slots .entry))) (now (out .entry)) p g ⌝ }
 {
     if p < n {
-        row_planar::add_at(out, slots[p], float_order::max32(g, 0.0));
+        row_places::add_at(out, slots[p], float_order::max32(g, 0.0));
     }
 }
 
@@ -76,7 +76,7 @@ fn add_each(out: &mut [f32], slots: &[u8], n: usize, w: f32)
 {
     let mut j: usize = 0;
     while j < n {
-        row_planar::add_at(out, slots[j], w);
+        row_places::add_at(out, slots[j], w);
         j += 1;
     }
 }
@@ -154,7 +154,7 @@ pub fn fill<'a>(
     requires { ⌜ («num_real» ≤ length (now slots)) × («num_imag» ≤ 14) × (t < 80) × (length (now idx) ≡ 240) × (every (λ x. leb x 40) counts ≡ true) ⌝ }
     ensures { λ _. ⌜ now (out .exit) ≡ placed (take «num_real» (now (slots .entry))) (now (idx .entry)) counts nbrs «num_imag» t g (length (now (out .entry))) ⌝ }
 {
-    row_planar::zero(out);
+    row_places::zero(out);
     real_points(out, slots, idx, num_real, t, g);
     if !is_real(idx, num_real, t) {
         imaginary(out, idx, num_real, counts, nbrs, num_imag, t, g);

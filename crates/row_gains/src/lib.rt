@@ -39,8 +39,8 @@ fn mono(slot: u8, outputs: u8, out: &mut [f32]) -> u32
     if outputs <= slot {
         return 11;
     }
-    row_planar::zero(&mut *out);
-    row_planar::put(out, slot, 1.0);
+    row_places::zero(&mut *out);
+    row_places::put(out, slot, 1.0);
     0
 }
 
@@ -135,7 +135,7 @@ pub fn gains(panner: VbapPanner, az: f32, el: f32, out: &mut [f32]) -> u32
     let kind = panner.kind;
     match kind {
         Kind::Silent => {
-            row_planar::zero(&mut out[..n]);
+            row_places::zero(&mut out[..n]);
             0
         }
         Kind::Mono => mono(panner.mono, outputs, &mut out[..n]),

@@ -15,7 +15,7 @@ use Rattle.float_root.specs.Root.{sqrtOf}
 use Rattle.vector.specs.Vector.{Vector, Points, dotIn, dirVecOf}
 use Rattle.layout_hull.specs.Triplets.{Triplet}
 use Rattle.layout_record.specs.Shape.{HullShape}
-use Rattle.row_planar.specs.PlanarRow.{addAt}
+use Rattle.row_places.specs.Places.{addAt}
 use Rattle.row_greatest.specs.Greatest.{firstGreatest}
 use Rattle.vector.specs.Limits.{maxImaginary}
 

@@ -140,9 +140,9 @@ fn nearest(out: &mut [f32], slots: &[u8], dirs: [f32; 120], n: usize, s: [f32; 3
     ensures { λ _. ⌜ now (out .exit) ≡ nearestIn s (now (slots .entry)) dirs n (replicate (length (now (out .entry))) +0) ⌝ }
 {
     let i = nearest_point(&dirs, n, s);
-    row_planar::zero(out);
+    row_places::zero(out);
     if i < n {
-        row_planar::put(out, slots[i], 1.0);
+        row_places::put(out, slots[i], 1.0);
     }
 }
 

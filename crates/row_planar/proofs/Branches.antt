@@ -15,7 +15,8 @@ use Rattle.layout_planar.specs.declared.Law.{Law}
 use Rattle.layout_planar.specs.declared.Law.the-variants.{Inverse, Crossfade}
 use Rattle.layout_planar.specs.declared.PlanarPair.{PlanarPair}
 use Rattle.layout_planar.specs.Planar.{noPair}
-use Rattle.row_planar.specs.PlanarRow.{leastPairNorm, Two, addAt, rel, contains, chosen, byInverse, byCrossfade, byLaw, planarSpread, spread, pairRow, planarRow}
+use Rattle.row_places.specs.Places.{addAt}
+use Rattle.row_planar.specs.PlanarRow.{leastPairNorm, Two, rel, contains, chosen, byInverse, byCrossfade, byLaw, planarSpread, spread, pairRow, planarRow}
 use Rattle.lists.proofs.Search.{first-here, first-on, first-end}
 use Rattle.lists.proofs.Ends.{last-at}
 use Rattle.lists.proofs.Tests.{cond-yes, cond-no}

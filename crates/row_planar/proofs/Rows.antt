@@ -1,47 +1,24 @@
--- Laws of the row's loops: zeros stored one after another, and the spread's slots one after another. Assumes nothing.
-use Prim.Native.Nat.{ℕ, suc, _+_, _≤_, _<_}
+-- Laws of the spread: its slots one after another. Assumes nothing.
+use Prim.Native.Nat.{ℕ, _+_, _≤_, _<_}
 use mathlib.Core.Path.{_≡_, sym, ap, _∙_}
 use mathlib.Core.Bool.{true, false}
-use mathlib.Core.List.{List, [], _++_, append-nil, foldl}
+use mathlib.Core.List.{List, [], foldl}
 use native.Mathlib.Numerals.{add-one}
 use native.Mathlib.Omega.{arith}
-use lib.ListN.{length, getD, set, take, drop, replicate, length-replicate, replicate-append-replicate, drop-of-length-le}
-use lib.Seq.{drop-cons, set-at, set-out, append-snoc, take-suc, length-take-le}
-use lib.Ieee.{Float, nan, binary32, add, div, lt}
+use lib.ListN.{length, getD, set, take}
+use lib.Seq.{set-out, take-suc, length-take-le}
+use lib.Ieee.{Float, nan, binary32, div, lt}
 use Rattle.lists.specs.Lists.{isEmpty}
 use Rattle.float_order.specs.Values.{+0, count32}
-use Rattle.row_planar.specs.PlanarRow.{addAt, spreadGain, spreadAt, spread}
+use Rattle.row_planar.specs.PlanarRow.{spreadGain, spreadAt, spread}
 use Rattle.lists.proofs.Collect.{foldl-snoc}
 use Rattle.lists.proofs.Tests.{some-taken}
 
--- ---- zeros
+-- ---- one place: beyond the end, and within
 
-module _ (l : List Float) (z : Float) where
-  pub zeros-more : (i : ℕ) {m : List Float} → i < length l → m ≡ replicate i z ++ drop i l → set m i z ≡ replicate (i + 1) z ++ drop (i + 1) l
-  zeros-more i h e =
-      rw (e, drop-cons l i nan h, add-one i)
-      (set-at (replicate i z) (getD l i nan) (drop (suc i) l) z i (length-replicate i z)
-      ∙ sym (append-snoc (replicate i z) z (drop (suc i) l))
-      ∙ ap (λ (r : List Float). r ++ drop (suc i) l) (replicate-append-replicate i 1 z ∙ ap (λ (k : ℕ). replicate k z) (add-one i)))
-
-  pub zeros-all : (i : ℕ) {m : List Float} → i ≡ length l → m ≡ replicate i z ++ drop i l → m ≡ replicate (length l) z
-  zeros-all i g e = e ∙ rw (drop-of-length-le l {i = i} (omega arith), append-nil, g)
-
--- ---- a place beyond the end
-
-module _ (row : List Float) (i : ℕ) (beyond : length row ≤ i) where
-  pub put-beyond : (v : Float) → row ≡ set row i v
-  put-beyond v = sym (set-out row i v beyond)
-
-  pub add-beyond : (v : Float) → row ≡ addAt row i v
-  unfolding addAt
-  add-beyond v = put-beyond (add binary32 (getD row i nan) v)
-
-  pub spread-beyond : (w d2 : Float) → row ≡ spreadAt w d2 row i
-  unfolding spreadAt
-  spread-beyond w d2 = sym (set-out row i _ beyond)
-
--- ---- a place within
+pub spread-beyond : (row : List Float) (i : ℕ) → length row ≤ i → (w d2 : Float) → row ≡ spreadAt w d2 row i
+unfolding spreadAt
+spread-beyond row i beyond w d2 = sym (set-out row i _ beyond)
 
 pub spread-by : (row : List Float) (i : ℕ) (w d2 : Float) {v : Float} → v ≡ spreadGain w d2 (getD row i nan) → set row i v ≡ spreadAt w d2 row i
 unfolding spreadAt

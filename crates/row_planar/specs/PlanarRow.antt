@@ -19,6 +19,7 @@ use Rattle.layout_planar.specs.declared.Law.{Law}
 use Rattle.layout_planar.specs.declared.Law.the-variants.{Inverse, Crossfade}
 use Rattle.layout_planar.specs.declared.PlanarPair.{PlanarPair}
 use Rattle.layout_planar.specs.Planar.{noPair}
+use Rattle.row_places.specs.Places.{addAt}
 
 -- ---- constants in 32 bits
 
@@ -37,11 +38,6 @@ insideEps = ofBits binary32 0x3586_37bd
 -- LEAST_PAIR_NORM, 1e-12. Origin: vbap.rs line 493; the norm of a pair's two gains has to be above it: else the row stays silent, and nothing is divided by it.
 abbrev pub leastPairNorm : Float
 leastPairNorm = ofBits binary32 0x2b8c_bccc
-
--- ---- places
-
-unfoldable pub addAt : List Float → ℕ → Float → List Float
-addAt row i v = set row i (add binary32 (getD row i nan) v)
 
 -- ---- planar: the first pair that contains the azimuth, else the last
 

@@ -2,9 +2,9 @@
 // Origin of 40, the length of the arrays of pairs and slots: document 01, "Returned numbers" (malformed: pairs over 40, planar slots over 40).
 ghost use mathlib.Core.Path.{_≡_};
 ghost use Prim.Native.Nat.{_≤_, _<_};
-ghost use lib.ListN.{length, set, replicate, take};
+ghost use lib.ListN.{length, replicate, take};
 ghost use Rattle.float_order.specs.Values.{+0};
-ghost use Rattle.row_planar.specs.PlanarRow.{addAt, rel, contains, chosen, byInverse, shaped, byCrossfade, byLaw, planarSpread, spreadGain, spreadAt, spread, pairRow, planarRow};
+ghost use Rattle.row_planar.specs.PlanarRow.{rel, contains, chosen, byInverse, shaped, byCrossfade, byLaw, planarSpread, spreadGain, spreadAt, spread, pairRow, planarRow};
 use layout_planar::Law;
 use layout_planar::PlanarPair;
 
@@ -27,37 +27,6 @@ const FRAC_PI_2: f32 = 1.5707964;
 struct PairGains {
     ga: f32,
     gb: f32,
-}
-
-// ---- places of a row; one beyond its end is none
-
-// +0 in every place.
-pub fn zero(row: &mut [f32])
-    ensures { λ r. ⌜ now (row .exit) ≡ replicate (length (now (row .entry))) +0 ⌝ }
-{
-    let mut i: usize = 0;
-    while i < row.len() {
-        row[i] = 0.0;
-        i += 1;
-    }
-}
-
-pub fn put(row: &mut [f32], slot: u8, v: f32)
-    ensures { λ r. ⌜ now (row .exit) ≡ set (now (row .entry)) slot v ⌝ }
-{
-    let i = slot as usize;
-    if i < row.len() {
-        row[i] = v;
-    }
-}
-
-pub fn add_at(row: &mut [f32], slot: u8, v: f32)
-    ensures { λ r. ⌜ now (row .exit) ≡ addAt (now (row .entry)) slot v ⌝ }
-{
-    let i = slot as usize;
-    if i < row.len() {
-        row[i] = row[i] + v;
-    }
 }
 
 // ---- the chosen pair
@@ -253,8 +222,8 @@ fn pair_row(
     if !(LEAST_PAIR_NORM < norm) {
         return;
     }
-    put(&mut *row, p.a, g.ga / norm);
-    add_at(&mut *row, p.b, g.gb / norm);
+    row_places::put(&mut *row, p.a, g.ga / norm);
+    row_places::add_at(&mut *row, p.b, g.gb / norm);
     spread_over(planar_spread(el), slots, num_slots, row);
 }
 
@@ -273,11 +242,11 @@ pub fn planar_row(
     ensures { λ r. ⌜ now (out .exit) ≡ planarRow (length (now (out .entry))) az el (take «num_pairs» pairs) (take «num_slots» slots) ⌝ }
 {
     if num_pairs == 0 {
-        zero(&mut *out);
+        row_places::zero(&mut *out);
         return;
     }
     let p = chosen_pair(pairs, num_pairs, az);
     let g = by_law(az, p);
-    zero(&mut *out);
+    row_places::zero(&mut *out);
     pair_row(el, p, g, slots, num_slots, out);
 }

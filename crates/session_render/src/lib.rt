@@ -61,7 +61,7 @@ fn target(panner: VbapPanner, n: Count, az: f32, el: f32, row: &mut [f32])
     ensures { λ _. ⌜ now (row .exit) ≡ targetRow panner n az el ⌝ }
 {
     if n == 0 {
-        row_planar::zero(row);
+        row_places::zero(row);
         return;
     }
     row_gains::gains(panner, az, el, row);

@@ -27,7 +27,8 @@ use Rattle.layout_record.specs.Panner.{kindIn, monoIn, pairsIn, slotsIn, hullIn
 use Rattle.layout_record.specs.Malformed.{countsOver, usedSlots, usedPoints, numbersOut, malformedOf}
 use Rattle.layout_record.specs.declared.VbapPanner.{VbapPanner}
 use Rattle.layout_new.specs.Layout.{outputsOf, speakerAt, active, levelAt, level, shapeOf, layoutOf, pannerOf}
-use Rattle.row_planar.specs.PlanarRow.{Two, addAt, rel, contains, chosen, shaped, byCrossfade, byLaw, planarSpread, spread, pairRow, planarRow}
+use Rattle.row_places.specs.Places.{addAt}
+use Rattle.row_planar.specs.PlanarRow.{Two, rel, contains, chosen, shaped, byCrossfade, byLaw, planarSpread, spread, pairRow, planarRow}
 use Rattle.row_gains.specs.Gains.{finiteOr0, rowIn, rowOf, gainsOf}
 use Rattle.mix_ramp.specs.Ramp.{rampGain, rampAddOf}
 use Rattle.mix_gain.specs.Mixed.{normSqOf, normalizedLerpGainOf}

@@ -21,7 +21,7 @@ use Rattle.float_root.specs.Root.{sqrtOf}
 use Rattle.vector.specs.Vector.{Vector, dotIn, dirVecOf}
 use Rattle.layout_hull.specs.Triplets.{Triplet}
 use Rattle.layout_record.specs.Shape.{HullShape}
-use Rattle.row_planar.specs.PlanarRow.{addAt}
+use Rattle.row_places.specs.Places.{addAt}
 use Rattle.vector.specs.Limits.{maxImaginary}
 use Rattle.row_hull.specs.HullRow.{Aimed, aimed, bestOf, nearestPoint, nearestRow, Filling, give, filling, shared, tripletRow, rowBy, hullRow}
 use Rattle.float_bounds.proofs.Units.{Val}

@@ -4,7 +4,7 @@ use mathlib.Core.List.{List}
 use lib.ListN.{getD, replicate}
 use lib.Ieee.{Float, nan, binary32, add}
 use Rattle.float_order.specs.Values.{+0}
-use Rattle.row_planar.specs.PlanarRow.{addAt}
+use Rattle.row_places.specs.Places.{addAt}
 use Rattle.float_bounds.proofs.Size.{Mag, mag-more}
 use Rattle.float_bounds.proofs.Order.{zero-mag}
 use Rattle.lists.proofs.Each.{each-imply, each-getD, each-set, each-replicate}

@@ -17,7 +17,8 @@ use Rattle.float_order.specs.Values.{+0, 1·0, count32}
 use Rattle.float_order.specs.Order.{squareOf}
 use Rattle.float_root.specs.Root.{sqrtOf}
 use Rattle.layout_planar.specs.declared.PlanarPair.{PlanarPair}
-use Rattle.row_planar.specs.PlanarRow.{planarMaxElevation, halfPi32, leastPairNorm, addAt, contains, chosen, Two, byLaw, planarSpread, spreadGain, spreadAt, spread, pairRow, planarRow}
+use Rattle.row_places.specs.Places.{addAt}
+use Rattle.row_planar.specs.PlanarRow.{planarMaxElevation, halfPi32, leastPairNorm, contains, chosen, Two, byLaw, planarSpread, spreadGain, spreadAt, spread, pairRow, planarRow}
 use Rattle.float_bounds.proofs.Units.{Val, unitsOf, mul-round, div-round, round-Val}
 use Rattle.float_bounds.proofs.Held.{held, fits-held, grid-held, grid-le}
 use Rattle.float_bounds.proofs.Size.{Mag, Most, most-of, most-sign, val-mag, mag-more, mag-add, mag-mul, mag-div, mul-most, times-most, square-most, rest-most, div-most, most-absorb, round-mag, sum-val, unlike-self}

@@ -15,7 +15,8 @@ use Rattle.layout_planar.specs.declared.PlanarPair.{PlanarPair}
 use Rattle.layout_hull.specs.Triplets.{Triplet}
 use Rattle.layout_record.specs.Shape.{HullShape, Shape, silent, mono, planar, hull}
 use Rattle.layout_record.specs.Malformed.{usedSlots}
-use Rattle.row_planar.specs.PlanarRow.{addAt, leastPairNorm, Two, byLaw, chosen, planarSpread, spreadGain, spreadAt, spread, pairRow, planarRow}
+use Rattle.row_places.specs.Places.{addAt}
+use Rattle.row_planar.specs.PlanarRow.{leastPairNorm, Two, byLaw, chosen, planarSpread, spreadGain, spreadAt, spread, pairRow, planarRow}
 use Rattle.vector.specs.Limits.{maxImaginary}
 use Rattle.row_hull.specs.HullRow.{Aimed, bestOf, nearestPoint, nearestRow, Filling, give, filling, shared, scaled, tripletRow, rowBy, hullRow}
 use Rattle.row_gains.specs.Gains.{rowIn}

@@ -5,7 +5,7 @@ use mathlib.Core.List.{List}
 use denote.Ref.{now}
 use lib.ListN.{length, getD, take}
 use lib.Ieee.{Float}
-use Rattle.row_planar.specs.PlanarRow.{addAt}
+use Rattle.row_places.specs.Places.{addAt}
 use Rattle.row_fill.specs.Inner.Filling.{addEach}
 use Rattle.row_fill.proofs.Places.{each-none, each-more}
 use borrow.Author.Needs.{needs}

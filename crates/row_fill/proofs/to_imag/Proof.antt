@@ -2,7 +2,7 @@
 use mathlib.Core.Path.{ap₂, _∙_}
 use Prim.Native.Nat.{ℕ}
 use lib.Ieee.{Float, ofBits}
-use Rattle.row_planar.specs.PlanarRow.{addAt}
+use Rattle.row_places.specs.Places.{addAt}
 use Rattle.row_fill.proofs.Places.{imag-no, imag-yes}
 use borrow.Author.Needs.{needs}
 use Rattle.row_fill.proofs.to_imag.Statement.{statement}

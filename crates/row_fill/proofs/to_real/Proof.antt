@@ -3,7 +3,7 @@ use mathlib.Core.Path.{ap, _∙_}
 use denote.Ref.{now}
 use lib.ListN.{getD}
 use lib.Ieee.{ofBits}
-use Rattle.row_planar.specs.PlanarRow.{addAt}
+use Rattle.row_places.specs.Places.{addAt}
 use Rattle.row_fill.proofs.Places.{real-yes, real-no}
 use borrow.Author.Needs.{needs}
 use Rattle.row_fill.proofs.to_real.Statement.{statement}

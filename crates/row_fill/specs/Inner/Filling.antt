@@ -10,7 +10,7 @@ use Rattle.float_order.specs.Values.{+0, count32}
 use Rattle.float_order.specs.Order.{maxOf}
 use Rattle.float_root.specs.Root.{sqrtOf}
 use Rattle.vector.specs.Limits.{maxImaginary}
-use Rattle.row_planar.specs.PlanarRow.{addAt}
+use Rattle.row_places.specs.Places.{addAt}
 
 -- ---- a gain to a real point's slot, or to an imaginary point's sum
 

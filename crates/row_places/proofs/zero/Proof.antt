@@ -1,4 +1,4 @@
--- `row_planar::zero` meets its contract. The invariant: +0 in the places before i, and the row's own after. Assumes nothing.
+-- `row_places::zero` meets its contract. The invariant: +0 in the places before i, and the row's own after. Assumes nothing.
 use Prim.Native.Nat.{_≤_, _-_}
 use mathlib.Core.Path.{_≡_, refl}
 use mathlib.Core.List.{_++_}
@@ -6,9 +6,9 @@ use native.Mathlib.Omega.{arith}
 use lib.ListN.{length, length-set, drop, replicate}
 use lib.Ieee.{ofBits}
 use Rattle.float_order.specs.Values.{+0}
-use Rattle.row_planar.proofs.Rows.{zeros-more, zeros-all}
-use Rattle.row_planar.proofs.zero.Statement.{statement}
-use Rattle.row_planar.proofs.zero.Tie as tie
+use Rattle.row_places.proofs.Places.{zeros-more, zeros-all}
+use Rattle.row_places.proofs.zero.Statement.{statement}
+use Rattle.row_places.proofs.zero.Tie as tie
 
 abbrev Inv-loop : tie.InvT-loop
 Inv-loop row₀ i₀ row i = (i ≤ length row₀) × (length row ≡ length row₀) × (row ≡ replicate i +0 ++ drop i row₀)

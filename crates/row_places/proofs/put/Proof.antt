@@ -1,8 +1,8 @@
--- `row_planar::put` meets its contract: a store in the row, and none beyond its end. Assumes nothing.
+-- `row_places::put` meets its contract: a store in the row, and none beyond its end. Assumes nothing.
 use borrow.Author.Needs.{needs}
-use Rattle.row_planar.proofs.Rows.{put-beyond}
-use Rattle.row_planar.proofs.put.Statement.{statement}
-use Rattle.row_planar.proofs.put.Tie as tie
+use Rattle.row_places.proofs.Places.{put-beyond}
+use Rattle.row_places.proofs.put.Statement.{statement}
+use Rattle.row_places.proofs.put.Tie as tie
 
 mul-row : tie.Need-mul-row
 mul-row c = search needs

@@ -1,10 +1,10 @@
--- `row_planar::add_at` meets its contract: a store in the row, and none beyond its end. Assumes nothing.
+-- `row_places::add_at` meets its contract: a store in the row, and none beyond its end. Assumes nothing.
 use mathlib.Core.Path.{refl}
 use borrow.Author.Needs.{needs}
-use Rattle.row_planar.specs.PlanarRow.{addAt}
-use Rattle.row_planar.proofs.Rows.{add-beyond}
-use Rattle.row_planar.proofs.add_at.Statement.{statement}
-use Rattle.row_planar.proofs.add_at.Tie as tie
+use Rattle.row_places.specs.Places.{addAt}
+use Rattle.row_places.proofs.Places.{add-beyond}
+use Rattle.row_places.proofs.add_at.Statement.{statement}
+use Rattle.row_places.proofs.add_at.Tie as tie
 
 mul-row : tie.Need-mul-row
 mul-row c = search needs
