@@ -1,4 +1,5 @@
 pub mod Insertion
 pub mod Angles
+pub mod FloatOrder
 pub mod Equals
 pub mod Meaning

@@ -19,7 +19,7 @@ use Rattle.float_root.specs.Root.{sqrtOf, roundRoot, wholeRoot, rootBy, grow}
 use Rattle.vector.specs.Limits.{maxImaginary}
 use Rattle.vector.specs.Vector.{Vector, Points, dotIn, dotOf}
 use Rattle.angle_sort.proofs.Angles.{float-lt-asym}
-use Rattle.row_greatest.proofs.FloatOrder.{lt-over}
+use Rattle.angle_sort.proofs.FloatOrder.{lt-over}
 use Rattle.float_bounds.proofs.Units.{Val, unitsOf}
 use Rattle.float_bounds.proofs.Order.{max-fits}
 use Rattle.layout_hull.specs.Triplets.{Triplet, opens, verdicts, tripletsOf, closed}

@@ -15,7 +15,7 @@ use Rattle.lists.proofs.Tests.{and-comm, every-at}
 use Rattle.angle_sort.proofs.Angles.{float-lt-self}
 use Rattle.row_greatest.specs.Greatest.{isGreatest, firstGreatest}
 use Rattle.row_greatest.specs.Inner.Steps.{Stands, Top, passed, FirstKept}
-use Rattle.row_greatest.proofs.FloatOrder.{lt-over, not-over, high-number, nan-not-above}
+use Rattle.angle_sort.proofs.FloatOrder.{lt-over, not-over, high-number, nan-not-above}
 use Rattle.row_greatest.proofs.Places.{every-places, position-is, position-none}
 
 -- ---- a number that is passed

@@ -1,4 +1,3 @@
-pub mod FloatOrder
 pub mod Places
 pub mod Passed
 pub mod Tops

@@ -16,7 +16,7 @@ use Rattle.lists.proofs.Tests.{and-left, and-right}
 use Rattle.row_greatest.specs.Greatest.{isGreatest, firstGreatest}
 use Rattle.row_greatest.specs.Inner.Steps.{greaterOf, Top, passed}
 use Rattle.row_greatest.specs.Meaning.{Chosen, NoneHigh, FirstGreatestChosen}
-use Rattle.row_greatest.proofs.FloatOrder.{lt-over}
+use Rattle.angle_sort.proofs.FloatOrder.{lt-over}
 use Rattle.row_greatest.proofs.Places.{every-places, position-at, position-before}
 use Rattle.row_greatest.proofs.Tops.{top-none, top-more}
 use Rattle.row_greatest.proofs.Found.{passed-told, stands, itself-kept, greatest-told, none-high, found-none}

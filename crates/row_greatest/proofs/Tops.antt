@@ -14,7 +14,7 @@ use lib.Seq.{getD-set-same, getD-set-other}
 use lib.Ieee.{Float, nan, inf, isNan, lt}
 use Rattle.angle_sort.proofs.Angles.{float-lt-self}
 use Rattle.row_greatest.specs.Inner.Steps.{greaterOf, Held, Top, Under, Lanes}
-use Rattle.row_greatest.proofs.FloatOrder.{not-above, not-over, above-low, high-number}
+use Rattle.angle_sort.proofs.FloatOrder.{not-above, not-over, above-low, high-number}
 
 -- ---- the greater of two
 
