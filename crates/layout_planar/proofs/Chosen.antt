@@ -1,6 +1,6 @@
 -- The branches of the planar definitions. Assumes nothing.
 use Prim.Native.Nat.{ℕ, _<_}
-use mathlib.Core.Path.{_≡_, sym}
+use mathlib.Core.Path.{_≡_, refl, sym, ap₂}
 use mathlib.Core.Bool.{true, false, _&&_}
 use lib.Dec.{eqb}
 use lib.Ieee.{Float, binary64, sub, neg, div, lt}
@@ -11,13 +11,14 @@ use Rattle.float_widths.specs.Narrow.{narrowOf}
 use Rattle.float_order.specs.Remainder.{remEuclidOf}
 use Rattle.float_sine.specs.Pi.{twoPi}
 use Rattle.float_sine.specs.Sine.{sinOf, cosOf}
+use Rattle.float_sine.specs.declared.SinCos.{SinCos}
 use Rattle.vector.specs.Vector.{minor}
 use Rattle.angle_sort.specs.declared.Spot.{Spot}
 use Rattle.layout_planar.specs.declared.Law.{Law}
 use Rattle.layout_planar.specs.declared.Law.the-variants.{Inverse, Crossfade}
 use Rattle.layout_planar.specs.declared.Joined.the-variants.{Coincident, Pair}
 use Rattle.layout_planar.specs.Planar.{leastSecondGap, leastPairDeterminant, coincident, maxVbapGap, gapAt, inverseLaw, lawOf, pairOf}
-use Rattle.layout_planar.specs.Inner.Arrays.{slotFits, joinedOf}
+use Rattle.layout_planar.specs.Inner.Arrays.{slotFits, sinCosOf, lawBy, joinedOf}
 
 module _ (m i : ℕ) (azA azB : Float) where
   abbrev plainGap : Float
@@ -47,17 +48,26 @@ module _ (ax az bx bz : Float) where
   unfolding inverseLaw minor
   law-inverse h = sym (cond-no Crossfade inverse h)
 
-module _ (azA azB gap : Float) where
+module _ (a b : SinCos) (gap : Float) where
   abbrev byInverse : Law
-  byInverse = inverseLaw (sinOf azA) (neg (cosOf azA)) (sinOf azB) (neg (cosOf azB))
+  byInverse = inverseLaw (a .sin) (neg (a .cos)) (b .sin) (neg (b .cos))
 
-  pub law-near : lt (narrowOf gap) maxVbapGap ≡ true → byInverse ≡ lawOf azA azB gap
-  unfolding lawOf
+  pub law-near : lt (narrowOf gap) maxVbapGap ≡ true → byInverse ≡ lawBy a b gap
+  unfolding lawBy
   law-near h = sym (cond-yes byInverse Crossfade h)
 
-  pub law-far : lt (narrowOf gap) maxVbapGap ≡ false → Crossfade ≡ lawOf azA azB gap
-  unfolding lawOf
+  pub law-far : lt (narrowOf gap) maxVbapGap ≡ false → Crossfade ≡ lawBy a b gap
+  unfolding lawBy
   law-far h = sym (cond-no byInverse Crossfade h)
+
+-- by the sines and cosines of two azimuths it is their law
+pub law-told : (azA azB gap : Float) {a b : SinCos} → a ≡ sinCosOf azA → b ≡ sinCosOf azB → lawBy a b gap ≡ lawOf azA azB gap
+unfolding lawBy lawOf
+law-told azA azB gap ea eb = rw (ea, eb) refl
+
+-- a record of a sine and a cosine
+pub both-told : (az : Float) {t : SinCos} → (t .sin ≡ sinOf az) × (t .cos ≡ cosOf az) → t ≡ sinCosOf az
+both-told az e = ap₂ (λ (s c : Float). record { sin = s; cos = c }) (e .0) (e .1)
 
 module _ (g : Float) (s t : Spot) where
   pub pair-none : lt g coincident ≡ true → Coincident ≡ joinedOf (pairOf g s t)

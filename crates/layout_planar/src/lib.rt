@@ -4,12 +4,11 @@ ghost use mathlib.Core.Path.{_≡_};
 ghost use mathlib.Core.Bool.{true};
 ghost use mathlib.Core.List.{map};
 ghost use Prim.Native.Nat.{_*_, _+_, _≤_, _<_};
-ghost use lib.Ieee.{Float};
-ghost use lib.ListN.{length};
+ghost use lib.ListN.{length, replicate};
 ghost use Rattle.lists.specs.Lists.{every, filled, part};
 ghost use Rattle.vector.specs.Speakers.{speakersIn};
-ghost use Rattle.layout_planar.specs.Planar.{spotOf, gapAt, inverseLaw, lawOf, pairOf};
-ghost use Rattle.layout_planar.specs.Inner.Arrays.{noSpot, slotFits, Turned, joinedOf, planarIn};
+ghost use Rattle.layout_planar.specs.Planar.{spotOf, gapAt, inverseLaw, pairOf, noPair};
+ghost use Rattle.layout_planar.specs.Inner.Arrays.{noSpot, slotFits, sinCosOf, lawBy, joinedOf, planarIn};
 use angle_sort::Spot;
 use float_sine::SinCos;
 
@@ -115,9 +114,9 @@ fn inverse_law(ax: f64, az: f64, bx: f64, bz: f64) -> Law
     )
 }
 
-// The law of a pair of azimuths, given by their sines and cosines, with the gap between them.
+// The law of a pair by the sines and cosines of its two azimuths, with the gap between them.
 fn law_of(a: SinCos, b: SinCos, gap: f64) -> Law
-    ensures { λ r. ⌜ ((azA azB : Float) → Turned azA a → Turned azB b → r ≡ lawOf azA azB gap) ⌝ }
+    ensures { λ r. ⌜ r ≡ lawBy a b gap ⌝ }
 {
     if float_widths::narrow(gap) < MAX_VBAP_GAP {
         return inverse_law(a.sin, -a.cos, b.sin, -b.cos);
@@ -128,7 +127,7 @@ fn law_of(a: SinCos, b: SinCos, gap: f64) -> Law
 // The pair from spot s to spot t, whose sines and cosines are a and b, with the gap g; a gap below 1e-6 makes none.
 fn pair_of(g: f64, s: Spot, t: Spot, a: SinCos, b: SinCos) -> Joined
     requires { ⌜ (slotFits s ≡ true) × (slotFits t ≡ true) ⌝ }
-    requires { ⌜ Turned (s .angle) a × Turned (t .angle) b ⌝ }
+    requires { ⌜ (a ≡ sinCosOf (s .angle)) × (b ≡ sinCosOf (t .angle)) ⌝ }
     ensures { λ r. ⌜ r ≡ joinedOf (pairOf g s t) ⌝ }
 {
     if g < COINCIDENT {
@@ -144,13 +143,10 @@ fn pair_of(g: f64, s: Spot, t: Spot, a: SinCos, b: SinCos) -> Joined
     })
 }
 
-// The pairs of the ring that n active speakers make: their slots, and three numbers a direction.
-// The sine and the cosine of each spot serve the pair that ends at it and the one that starts there.
-pub fn build_planar(out: &[u8; 40], dir: &[f64; 120], n: usize) -> Planar
-    requires { ⌜ (n ≤ 40) × (length (now dir) ≡ 120) ⌝ }
-    ensures { λ r. ⌜ r ≡ planarIn n (now (out .entry)) (now (dir .entry)) ⌝ }
+// The pairs of no ring: every place holds 0, +0 or the crossfade.
+pub fn no_pairs() -> [PlanarPair; 40]
+    ensures { λ r. ⌜ r ≡ replicate 40 noPair ⌝ }
 {
-    let a = angle_sort::sorted(spots(out, dir, n), n);
     let none = PlanarPair {
         start: 0.0,
         gap: 0.0,
@@ -158,7 +154,17 @@ pub fn build_planar(out: &[u8; 40], dir: &[f64; 120], n: usize) -> Planar
         b: 0,
         law: Law::Crossfade,
     };
-    let mut pairs = [none; 40];
+    [none; 40]
+}
+
+// The pairs of the ring that n active speakers make: their slots, and three numbers a direction.
+// The sine and the cosine of each spot serve the pair that ends at it and the one that starts there.
+pub fn build_planar(out: &[u8; 40], dir: &[f64; 120], n: usize) -> Planar
+    requires { ⌜ (n ≤ 40) × (length (now dir) ≡ 120) ⌝ }
+    ensures { λ r. ⌜ r ≡ planarIn n (now (out .entry)) (now (dir .entry)) ⌝ }
+{
+    let a = angle_sort::sorted(spots(out, dir, n), n);
+    let mut pairs = no_pairs();
     let mut num_pairs: usize = 0;
     let first = a[0];
     let mut here = float_sine::sin_cos(first.angle);

@@ -2,14 +2,14 @@
 use Prim.Native.Nat.{_+_, _-_, _%_, _≤_, _<_, zero-le}
 use mathlib.Core.Path.{_≡_, refl, sym, ap, _∙_}
 use native.Mathlib.Nat.{mod-eq-of-lt}
-use lib.Ieee.{ofBits}
 use lib.ListN.{length, take}
 use mathlib.Core.Bool.{true}
 use Rattle.lists.specs.Lists.{every}
 use Rattle.lists.proofs.Filled.{Gathered}
 use Rattle.vector.specs.Speakers.{speakersIn}
 use Rattle.layout_planar.specs.Planar.{ring, pairAt, noPair, spotAt}
-use Rattle.layout_planar.specs.Inner.Arrays.{slotFits, Turned, joinedOf}
+use Rattle.layout_planar.specs.Inner.Arrays.{slotFits, sinCosOf, joinedOf}
+use Rattle.layout_planar.proofs.Chosen.{both-told}
 use Rattle.layout_planar.proofs.Pairs.{next-below, front-slot, pair-front, pairsFrom, pairs-none, pairs-skip, pairs-more, pairs-done}
 use Rattle.layout_planar.proofs.Places.{ring-front, ring-slots, ring-fits}
 use borrow.Author.Needs.{needs}
@@ -19,44 +19,47 @@ use Rattle.layout_planar.proofs.build_planar.Tie as tie
 
 abbrev Inv-loop : tie.InvT-loop
 Inv-loop out dir n a pairs₀ num-pairs₀ here₀ i₀ pairs num-pairs here i =
-    (i ≤ n) × (num-pairs ≤ i) × (i < n → Turned (spotAt a i .angle) here) × Gathered 40 noPair (pairsFrom (take n a) i) pairs num-pairs
+    (i ≤ n) × (num-pairs ≤ i) × (i < n → here ≡ sinCosOf (spotAt a i .angle)) × Gathered 40 noPair (pairsFrom (take n a) i) pairs num-pairs
 
 abbrev μ-loop : tie.MeasureT-loop
 μ-loop out dir n a pairs₀ num-pairs₀ here₀ i₀ pairs num-pairs here i = n - i
 
 -- the front of the sorted array is the ring, and the array has room for it
 front : (l : tie.At-loop Inv-loop μ-loop)
-    → let g = l .before .before .before .before .before .args in
-    take (g .n) (l .before .before .before .sorted .result) ≡ ring (speakersIn (g .n) (g .out .now) (g .dir .now))
+    → let g = l .before .before .before .before .before .before .args in
+    take (g .n) (l .before .before .before .before .sorted .result) ≡ ring (speakersIn (g .n) (g .out .now) (g .dir .now))
 front l =
-    let g = l .before .before .before .before .before .args in
-    ring-front (g .out .now) (g .dir .now) (g .n) (l .before .before .before .before .spots .ensures .0) (l .before .before .before .sorted .ensures)
+    let g = l .before .before .before .before .before .before .args in
+    ring-front (g .out .now) (g .dir .now) (g .n) (l .before .before .before .before .before .spots .ensures .0) (l .before .before .before .before .sorted .ensures)
 
-fits : (l : tie.At-loop Inv-loop μ-loop) → l .before .before .before .before .before .args .n ≤ length (l .before .before .before .sorted .result)
+fits : (l : tie.At-loop Inv-loop μ-loop) → l .before .before .before .before .before .before .args .n ≤ length (l .before .before .before .before .sorted .result)
 fits l =
-    let g = l .before .before .before .before .before .args in
-    ring-fits (g .out .now) (g .dir .now) (g .n) (l .before .before .before .before .spots .ensures .0) (l .before .before .before .sorted .ensures)
+    let g = l .before .before .before .before .before .before .args in
+    ring-fits (g .out .now) (g .dir .now) (g .n) (l .before .before .before .before .before .spots .ensures .0) (l .before .before .before .before .sorted .ensures)
 
 -- the sine and the cosine of the next spot
 turned : (t : tie.After-sin-cos2 Inv-loop μ-loop)
     → let l = t .before .before .before .before in
-    Turned (spotAt (l .before .before .before .sorted .result) ((l .loop .i + 1) % l .before .before .before .before .before .args .n) .angle) (t .sin-cos2 .result)
-turned t = record { sine = t .sin-cos2 .ensures .0; cosine = t .sin-cos2 .ensures .1 }
+    t .sin-cos2 .result ≡ sinCosOf (spotAt (l .before .before .before .before .sorted .result) ((l .loop .i + 1) % l .before .before .before .before .before .before .args .n) .angle)
+turned t = both-told _ (t .sin-cos2 .ensures)
 
 -- what the pair from spot i to the next is
 joined-at : (p : tie.After-pair-of Inv-loop μ-loop)
     → let l = p .before .before .before .before .before .before in
-    p .pair-of .result ≡ joinedOf (pairAt (take (l .before .before .before .before .before .args .n) (l .before .before .before .sorted .result)) (l .loop .i))
+    p .pair-of .result ≡ joinedOf (pairAt (take (l .before .before .before .before .before .before .args .n) (l .before .before .before .before .sorted .result)) (l .loop .i))
 joined-at p =
     let l = p .before .before .before .before .before .before in
     rw (p .pair-of .ensures, p .before .gap-at .ensures)
-    (ap joinedOf (pair-front (l .before .before .before .sorted .result) (l .before .before .before .before .before .args .n) (l .loop .i) (p .before .before .before .before .before .loop-test .taken) (fits l)))
+    (ap joinedOf (pair-front (l .before .before .before .before .sorted .result) (l .before .before .before .before .before .before .args .n) (l .loop .i) (p .before .before .before .before .before .loop-test .taken) (fits l)))
 
 spots-requires : tie.Need-spots-requires Inv-loop μ-loop
 spots-requires c κs = c .pre
 
 sorted-requires : tie.Need-sorted-requires Inv-loop μ-loop
 sorted-requires c κs = search needs
+
+no-pairs-requires : tie.Need-no-pairs-requires Inv-loop μ-loop
+no-pairs-requires c κs = search needs
 
 array-copy-out-first : tie.Need-array-copy-out-first Inv-loop μ-loop
 array-copy-out-first c = omega arith
@@ -65,8 +68,7 @@ sin-cos-requires : tie.Need-sin-cos-requires Inv-loop μ-loop
 sin-cos-requires c κs = search needs
 
 loop-holds : tie.Need-loop-holds Inv-loop μ-loop
-unfolding ofBits
-loop-holds c = (zero-le, zero-le, λ h. record { sine = c .sin-cos .ensures .0; cosine = c .sin-cos .ensures .1 }, pairs-none _)
+loop-holds c = (zero-le, zero-le, λ h. both-told _ (c .sin-cos .ensures), rw (c .before .before .no-pairs .ensures) (pairs-none _))
 
 add-j : tie.Need-add-j Inv-loop μ-loop
 add-j c = omega arith
@@ -81,10 +83,10 @@ array-copy-out-s : tie.Need-array-copy-out-s Inv-loop μ-loop
 array-copy-out-s c = omega arith
 
 mul-t : tie.Need-mul-t Inv-loop μ-loop
-mul-t c = omega (arith, next-below (c .before .before .before .before .before .before .before .args .n) (c .before .before .loop .i) (c .before .loop-test .taken))
+mul-t c = omega (arith, next-below (c .before .before .before .before .before .before .before .before .args .n) (c .before .before .loop .i) (c .before .loop-test .taken))
 
 array-copy-out-t : tie.Need-array-copy-out-t Inv-loop μ-loop
-array-copy-out-t c = omega (arith, next-below (c .before .before .before .before .before .before .before .args .n) (c .before .before .loop .i) (c .before .loop-test .taken))
+array-copy-out-t c = omega (arith, next-below (c .before .before .before .before .before .before .before .before .args .n) (c .before .before .loop .i) (c .before .loop-test .taken))
 
 sin-cos-requires-2 : tie.Need-sin-cos-requires-2 Inv-loop μ-loop
 sin-cos-requires-2 c κs = search needs
@@ -96,10 +98,10 @@ pair-of-requires : tie.Need-pair-of-requires Inv-loop μ-loop
 pair-of-requires c κs =
     let l = c .before .before .before .before .before in
     let h = c .before .before .before .before .loop-test .taken in
-    let n = l .before .before .before .before .before .args .n in
+    let n = l .before .before .before .before .before .before .args .n in
     let i = l .loop .i in
-    let a = l .before .before .before .sorted .result in
-    let e : every slotFits (take n a) ≡ true = rw (front l) (ring-slots _ _ n (l .before .before .before .before .spots .ensures .1)) in
+    let a = l .before .before .before .before .sorted .result in
+    let e : every slotFits (take n a) ≡ true = rw (front l) (ring-slots _ _ n (l .before .before .before .before .before .spots .ensures .1)) in
     ((front-slot a n i h (fits l) i h e, front-slot a n i h (fits l) ((i + 1) % n) (next-below n i h) e), (l .loop .inv .2 h, turned (c .before)))
 
 enum-known-joined : tie.Need-enum-known-joined Inv-loop μ-loop
@@ -144,7 +146,7 @@ loop-again-2 c =
 returns : tie.Need-returns Inv-loop μ-loop
 returns c =
     let l = c .before in
-    let g = l .before .before .before .before .before in
+    let g = l .before .before .before .before .before .before in
     let e : l .loop .i ≡ g .args .n = omega arith in
     pairs-done _ _ _ (rw (← front l) (rw e at (l .loop .inv .3)))
 
@@ -156,6 +158,7 @@ build-planar-spec =
     μ-loop
     spots-requires
     sorted-requires
+    no-pairs-requires
     array-copy-out-first
     sin-cos-requires
     loop-holds

@@ -12,12 +12,11 @@ inverse-law-requires c κs = search needs
 
 returns : tie.Need-returns
 returns c =
-    λ azA azB p q.
-    rw (c .inverse-law .ensures, p .sine, p .cosine, q .sine, q .cosine)
-    (law-near azA azB _ (rw (← c .before .before .before .before .narrow .ensures) (c .before .before .before .if1 .taken)))
+    rw (c .inverse-law .ensures)
+    (law-near _ _ _ (rw (← c .before .before .before .before .narrow .ensures) (c .before .before .before .if1 .taken)))
 
 returns-2 : tie.Need-returns-2
-returns-2 c = λ azA azB p q. law-far azA azB _ (rw (← c .before .narrow .ensures) (c .if1 .left))
+returns-2 c = law-far _ _ _ (rw (← c .before .narrow .ensures) (c .if1 .left))
 
 pub law-of-spec : {M : Type 1} → statement M
 law-of-spec = tie.close (tie.spec narrow-requires inverse-law-requires returns returns-2)

@@ -1,6 +1,7 @@
 -- `layout_planar::pair_of` meets its contract: its two answers are the two cases of the test on the gap. Assumes nothing.
+use mathlib.Core.Path.{_∙_}
 use native.Mathlib.Omega.{arith}
-use Rattle.layout_planar.proofs.Chosen.{pair-none, pair-some, slot-fits}
+use Rattle.layout_planar.proofs.Chosen.{law-told, pair-none, pair-some, slot-fits}
 use borrow.Author.Needs.{needs}
 use Rattle.layout_planar.proofs.pair_of.Statement.{statement}
 use Rattle.layout_planar.proofs.pair_of.Tie as tie
@@ -28,7 +29,8 @@ returns-2 c =
     let d = c .before .before in
     let l = d .before .before in
     let g = l .before .before in
-    rw (d .narrow2 .ensures, d .before .narrow .ensures, l .law-of .ensures (g .args .s .angle) (g .args .t .angle) (g .pre .1 .0) (g .pre .1 .1)) (pair-some _ _ _ (l .before .if1 .left))
+    let law = l .law-of .ensures ∙ law-told (g .args .s .angle) (g .args .t .angle) (g .args .g) (g .pre .1 .0) (g .pre .1 .1) in
+    rw (d .narrow2 .ensures, d .before .narrow .ensures, law) (pair-some _ _ _ (l .before .if1 .left))
 
 pub pair-of-spec : {M : Type 1} → statement M
 pair-of-spec =
