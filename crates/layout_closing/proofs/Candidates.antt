@@ -12,7 +12,7 @@ use Rattle.lists.proofs.Collect.{foldl-snoc}
 use Rattle.lists.proofs.Tests.{cond-yes, cond-no}
 use Rattle.vector.specs.Vector.{Vector, Points}
 use Rattle.layout_closing.specs.Closing.{almost, greatest, passedOver, withPole, leastLead, wins, better, candidates}
-use Rattle.layout_closing.specs.Inner.Flat.{bestIn}
+use Rattle.layout_closing.specs.Inner.Flat.{bestIn, foundIn}
 use Rattle.layout_closing.specs.declared.Best.{Best}
 
 -- ---- a pole
@@ -71,10 +71,21 @@ module _ (pts : Points) (c : Vector) where
       better-wins k =
           ap (λ (x : Float). record { found = true; c = c; nearest = x }) n ∙ ap (bestIn pts) (sym (better-takes b (fresh ∙ ap not k)))
 
+-- a record of the best so far holds that candidate
+pub found-is : (pts : Points) (b : Option Vector) {best : Best} → best ≡ bestIn pts b → foundIn best ≡ b
+unfolding foundIn bestIn
+found-is pts none e = ap foundIn e
+found-is pts (some v) e = ap foundIn e
+
+pub found-same : (pts : Points) (b : Option Vector) {best : Best} → best ≡ bestIn pts b → best ≡ bestIn pts (foundIn best)
+found-same pts b e = e ∙ ap (bestIn pts) (sym (found-is pts b e))
+
 -- one candidate more, read from a table that is the candidates'
-pub best-more : (pts : Points) {table : Points} (i : ℕ) {best : Best} → i < 14 → table ≡ candidates
-    → best ≡ bestIn pts (better pts (foldl (better pts) none (take i candidates)) (getD table i [])) → best ≡ bestIn pts (foldl (better pts) none (take (i + 1) candidates))
-best-more pts i h t e =
+pub best-more : (pts : Points) {table : Points} (i : ℕ) {before best : Best} → i < 14 → table ≡ candidates
+    → before ≡ bestIn pts (foldl (better pts) none (take i candidates)) → best ≡ bestIn pts (better pts (foundIn before) (getD table i []))
+    → best ≡ bestIn pts (foldl (better pts) none (take (i + 1) candidates))
+best-more pts {table} i h t b e =
     e
+    ∙ ap (λ (o : Option Vector). bestIn pts (better pts o (getD table i []))) (found-is pts (foldl (better pts) none (take i candidates)) b)
     ∙ ap (λ (x : Points). bestIn pts (better pts (foldl (better pts) none (take i candidates)) (getD x i []))) t
     ∙ ap (bestIn pts) (sym (ap (λ (k : ℕ). foldl (better pts) none (take k candidates)) (add-one i) ∙ ap (foldl (better pts) none) (take-suc candidates i [] h) ∙ foldl-snoc (better pts) none (take i candidates) (getD candidates i [])))

@@ -16,9 +16,9 @@ use Rattle.layout_hull.specs.Triplets.{tripletsOf, closed}
 use Rattle.layout_hull.specs.Inner.Flat.{hullOf}
 use Rattle.layout_hull.specs.declared.Hull.{Hull}
 use Rattle.layout_closing.specs.Closing.{candidateOf, onward, closing, withPoles, stages, finalPoints, overfull}
-use Rattle.layout_closing.specs.Inner.Flat.{bestIn, closedIn}
+use Rattle.layout_closing.specs.Inner.Flat.{bestIn, endedIn}
 use Rattle.layout_closing.specs.declared.Best.{Best}
-use Rattle.layout_closing.specs.declared.Closed.{Closed}
+use Rattle.layout_closing.specs.declared.Ended.{Ended}
 
 -- ---- the lists after the first
 
@@ -129,8 +129,8 @@ module _ {real : Points} {n : ℕ} {flat : List Float} {m : ℕ} {h : Hull} {ove
     }
 
   -- nothing is left to do
-  left-done : length real ≡ n → after (14 - (m - n)) (pointsIn m flat) ≡ [] → record { imag = m - n; hull = h; over = over } ≡ closedIn real
-  unfolding closedIn last any
+  left-done : length real ≡ n → after (14 - (m - n)) (pointsIn m flat) ≡ [] → record { imag = m - n; hull = h; over = over } ≡ endedIn real
+  unfolding endedIn last any
   left-done r e =
       let f : pointsIn m flat ≡ finalPoints real = sym (ap (λ (t : List Points). last t (pointsIn m flat)) e) ∙ s .end in
       let i : m - n ≡ length (finalPoints real) - length real = omega (arith, ap length f, length-points m flat) in
@@ -138,16 +138,16 @@ module _ {real : Points} {n : ℕ} {flat : List Float} {m : ℕ} {h : Hull} {ove
       let u : h ≡ hullOf (finalPoints real) = s .hull ∙ ap hullOf f in
       parts i u v
     where
-      parts : {i j : ℕ} {a b : Hull} {v w : Bool} → i ≡ j → a ≡ b → v ≡ w → _≡_ {A = Closed} (record { imag = i; hull = a; over = v }) (record { imag = j; hull = b; over = w })
+      parts : {i j : ℕ} {a b : Hull} {v w : Bool} → i ≡ j → a ≡ b → v ≡ w → _≡_ {A = Ended} (record { imag = i; hull = a; over = v }) (record { imag = j; hull = b; over = w })
       parts e g f = rw (e, g, f)
 
-  pub done-full : length real ≡ n → 14 ≤ m - n → record { imag = m - n; hull = h; over = over } ≡ closedIn real
+  pub done-full : length real ≡ n → 14 ≤ m - n → record { imag = m - n; hull = h; over = over } ≡ endedIn real
   unfolding after
   done-full r g = let e : 14 - (m - n) ≡ 0 = omega arith in left-done r (ap (λ (i : ℕ). after i (pointsIn m flat)) e)
 
-  pub done-closed : length real ≡ n → h .enclosed ≡ true → record { imag = m - n; hull = h; over = over } ≡ closedIn real
+  pub done-closed : length real ≡ n → h .enclosed ≡ true → record { imag = m - n; hull = h; over = over } ≡ endedIn real
   done-closed r g = left-done r (after-closed (pointsIn m flat) (14 - (m - n)) (sym (hull-closed (pointsIn m flat) (s .hull)) ∙ g))
 
   pub done-none : length real ≡ n → h .enclosed ≡ false → {best : Best} → best ≡ bestIn (pointsIn m flat) (candidateOf (pointsIn m flat)) → best .found ≡ false
-      → record { imag = m - n; hull = h; over = over } ≡ closedIn real
+      → record { imag = m - n; hull = h; over = over } ≡ endedIn real
   done-none r o e g = left-done r (after-none (pointsIn m flat) (14 - (m - n)) (sym (hull-closed (pointsIn m flat) (s .hull)) ∙ o) (best-none (pointsIn m flat) (candidateOf (pointsIn m flat)) e g))

@@ -2,19 +2,18 @@
 // Lengths of arrays: 40 directions (document 01, refusal 2) and 14 imaginary points (vbap.rs line 60) are 54 points, of three numbers each: 120 and 162.
 ghost use mathlib.Core.Path.{_≡_};
 ghost use mathlib.Core.List.{[], _∷_, _++_};
-ghost use mathlib.Core.Option.{Option};
 ghost use Prim.Native.Nat.{_+_, _≤_, _<_};
 ghost use lib.ListN.{length};
 ghost use Rattle.lists.specs.Lists.{filled};
 ghost use Rattle.float_order.specs.Values.{+0};
-ghost use Rattle.vector.specs.Vector.{Vector, pointsIn};
+ghost use Rattle.vector.specs.Vector.{pointsIn};
 ghost use Rattle.layout_closing.specs.Closing.{greatest, passedOver, withPole, better, candidateOf};
-ghost use Rattle.layout_closing.specs.Inner.Flat.{bestIn, closedIn};
+ghost use Rattle.layout_closing.specs.Inner.Flat.{bestIn, foundIn, endedIn};
 use layout_hull::Hull;
 use vector::MAX_IMAGINARY;
 
-// How many imaginary points there are, poles counted; the hull of all points; whether a triplet list on the way had more than 80 entries.
-pub struct Closed {
+// What the closing ends with: how many imaginary points there are, poles counted; the hull of all points, which is open where no candidate or no room was left; whether a triplet list on the way had more than 80 entries.
+pub struct Ended {
     pub imag: usize,
     pub hull: Hull,
     pub over: bool,
@@ -102,8 +101,8 @@ fn with_pole(pts: &mut [f64; 162], n: usize, c: [f64; 3]) -> usize
 
 // The better of the best so far and c, where that is not passed over: c wins only when its product is below the other's less 1e-9.
 fn better(pts: &[f64; 162], n: usize, best: Best, c: [f64; 3]) -> Best
-    requires { ⌜ (n ≤ 54) × (length (now pts) ≡ 162) ⌝ }
-    ensures { λ r. ⌜ ((b : Option Vector) → best ≡ bestIn (pointsIn n (now (pts .entry))) b → r ≡ bestIn (pointsIn n (now (pts .entry))) (better (pointsIn n (now (pts .entry))) b c)) ⌝ }
+    requires { ⌜ (n ≤ 54) × (length (now pts) ≡ 162) × (best ≡ bestIn (pointsIn n (now pts)) (foundIn best)) ⌝ }
+    ensures { λ r. ⌜ r ≡ bestIn (pointsIn n (now (pts .entry))) (better (pointsIn n (now (pts .entry))) (foundIn best) c) ⌝ }
 {
     let nearest = greatest(pts, n, c);
     if ALMOST <= nearest {
@@ -154,9 +153,9 @@ fn with_room(dir: &[f64]) -> [f64; 162]
 }
 
 // The n directions with the poles and, while the hull is open and fewer than fourteen points are imaginary, candidates.
-pub fn close(dir: &[f64; 120], n: usize) -> Closed
+pub fn close(dir: &[f64; 120], n: usize) -> Ended
     requires { ⌜ n ≤ 40 ⌝ }
-    ensures { λ r. ⌜ r ≡ closedIn (pointsIn n (now (dir .entry))) ⌝ }
+    ensures { λ r. ⌜ r ≡ endedIn (pointsIn n (now (dir .entry))) ⌝ }
 {
     let mut pts = with_room(dir);
     // the poles. Origin: vbap.rs lines 369 and 371
@@ -178,7 +177,7 @@ pub fn close(dir: &[f64; 120], n: usize) -> Closed
         hull = layout_hull::hull_triplets(&pts, m);
         over = over | hull.over;
     }
-    Closed {
+    Ended {
         imag: m - n,
         hull,
         over,

@@ -19,8 +19,8 @@ use Rattle.vector.specs.Speakers.{Speaker, slotsOf, dirsOf}
 use Rattle.layout_hull.specs.Triplets.{Triplet, tripletsOf}
 use Rattle.layout_hull.specs.Inner.Flat.{numbersOf, entriesOf, inversesOf, hullOf}
 use Rattle.layout_closing.specs.Closing.{finalPoints, overfull}
-use Rattle.layout_closing.specs.Inner.Flat.{closedIn}
-use Rattle.layout_closing.specs.declared.Closed.{Closed}
+use Rattle.layout_closing.specs.Inner.Flat.{endedIn}
+use Rattle.layout_closing.specs.declared.Ended.{Ended}
 use Rattle.layout_neighbours.specs.Neighbours.{neighboursOf}
 use Rattle.layout_neighbours.specs.Inner.Flat.{triplesIn, neighboursIn, Numbered}
 use Rattle.layout_neighbours.specs.declared.ImagNbrs.{ImagNbrs}
@@ -45,7 +45,7 @@ abbrev trisOf : List Speaker → List Triplet
 trisOf act = tripletsOf (finalPoints (dirsOf act))
 
 -- what `close` answered where no list was too long
-pub record Made (act : List Speaker) (r : Closed) : Type 0 where
+pub record Made (act : List Speaker) (r : Ended) : Type 0 where
   pub fits : overfull (dirsOf act) ≡ false
   pub imag : r .imag ≡ length (finalPoints (dirsOf act)) - length act
   pub few : length (trisOf act) ≤ 80
@@ -53,16 +53,16 @@ pub record Made (act : List Speaker) (r : Closed) : Type 0 where
   pub idx : r .hull .idx ≡ filled 240 0 (flatMap numbers (trisOf act))
   pub inv : r .hull .inv ≡ flatMap (λ e. filled 80 +0 (map (λ t. getD (t .inv) e nan) (trisOf act))) (range 9)
 
-module _ (a : Active) (r : Closed) (e : r ≡ closedIn (pointsIn (a .count) (a .dir))) where
-  closed-is : r ≡ closedIn (dirsOf (speakersOf a))
-  closed-is = e ∙ ap closedIn (sym (dirs-are a))
+module _ (a : Active) (r : Ended) (e : r ≡ endedIn (pointsIn (a .count) (a .dir))) where
+  closed-is : r ≡ endedIn (dirsOf (speakersOf a))
+  closed-is = e ∙ ap endedIn (sym (dirs-are a))
 
   pub over-is : r .over ≡ overfull (dirsOf (speakersOf a))
-  unfolding closedIn
-  over-is = ap (λ (c : Closed). c .over) closed-is
+  unfolding endedIn
+  over-is = ap (λ (c : Ended). c .over) closed-is
 
   pub made : r .over ≡ false → Made (speakersOf a) r
-  unfolding closedIn hullOf numbersOf inversesOf entriesOf
+  unfolding endedIn hullOf numbersOf inversesOf entriesOf
   made h =
       let act = speakersOf a in
       let fits : overfull (dirsOf act) ≡ false = sym over-is ∙ h in
@@ -70,11 +70,11 @@ module _ (a : Active) (r : Closed) (e : r ≡ closedIn (pointsIn (a .count) (a .
       let all : take 80 (trisOf act) ≡ trisOf act = take-all 80 (trisOf act) few in
       record {
         fits = fits;
-        imag = ap (λ (c : Closed). c .imag) closed-is ∙ ap (λ (m : ℕ). length (finalPoints (dirsOf act)) - m) (dirs-count act);
+        imag = ap (λ (c : Ended). c .imag) closed-is ∙ ap (λ (m : ℕ). length (finalPoints (dirsOf act)) - m) (dirs-count act);
         few = few;
-        count = ap (λ (c : Closed). c .hull .count) closed-is ∙ ap length all;
-        idx = ap (λ (c : Closed). c .hull .idx) closed-is ∙ ap (λ (l : List Triplet). filled 240 0 (flatMap numbers l)) all;
-        inv = ap (λ (c : Closed). c .hull .inv) closed-is
+        count = ap (λ (c : Ended). c .hull .count) closed-is ∙ ap length all;
+        idx = ap (λ (c : Ended). c .hull .idx) closed-is ∙ ap (λ (l : List Triplet). filled 240 0 (flatMap numbers l)) all;
+        inv = ap (λ (c : Ended). c .hull .inv) closed-is
             ∙ ap (λ (l : List Triplet). flatMap (λ e. filled 80 +0 (map (λ t. getD (t .inv) e nan) l)) (range 9)) all;
       }
 
@@ -85,7 +85,7 @@ unfolding flatMap
 length-numbers [] = refl
 length-numbers (t ∷ l) = omega (arith, length-numbers l)
 
-module _ (a : Active) (h : Holds a) (r : Closed) (m : Made (speakersOf a) r) where
+module _ (a : Active) (h : Holds a) (r : Ended) (m : Made (speakersOf a) r) where
   pub imag-few : r .imag ≤ 14
   imag-few = omega (arith, m .imag, final-count (dirsOf (speakersOf a)) .1, dirs-count (speakersOf a))
 

@@ -8,7 +8,7 @@ use lib.Ieee.{neg, ofBits}
 use Rattle.vector.specs.Vector.{pointsIn}
 use Rattle.layout_closing.specs.Closing.{better, candidates, candidateOf}
 use Rattle.layout_closing.specs.Inner.Flat.{bestIn}
-use Rattle.layout_closing.proofs.Candidates.{best-more}
+use Rattle.layout_closing.proofs.Candidates.{found-same, best-more}
 use borrow.Author.Needs.{needs}
 use native.Mathlib.Omega.{arith}
 use Rattle.layout_closing.proofs.candidate.Statement.{statement}
@@ -32,7 +32,9 @@ array-copy-out-c : tie.Need-array-copy-out-c Inv-loop μ-loop
 array-copy-out-c c = omega arith
 
 better-requires : tie.Need-better-requires Inv-loop μ-loop
-better-requires c κs = search needs
+better-requires c κs =
+    let b = c .before .before in
+    (b .before .pre .0, b .before .pre .1, found-same _ _ (b .loop .inv .2))
 
 add-i : tie.Need-add-i Inv-loop μ-loop
 add-i c = omega arith
@@ -43,7 +45,7 @@ loop-less c = omega arith
 loop-again : tie.Need-loop-again Inv-loop μ-loop
 loop-again c =
     let b = c .before .before .before in
-    (omega arith, b .loop .inv .1, best-more _ (b .loop .i) (c .before .before .loop-test .taken) (b .loop .inv .1) (c .better .ensures _ (b .loop .inv .2)))
+    (omega arith, b .loop .inv .1, best-more _ (b .loop .i) (c .before .before .loop-test .taken) (b .loop .inv .1) (b .loop .inv .2) (c .better .ensures))
 
 returns : tie.Need-returns Inv-loop μ-loop
 unfolding candidateOf
