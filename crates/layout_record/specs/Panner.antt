@@ -90,8 +90,12 @@ tripletAt v t =
       inv = map (λ e. getD (v .inv) (e * 80 + t) nan) (range 9);
     }
 
+-- the neighbours of imaginary point k, by the arrays of their counts and of their slots
+abbrev pub nearIn : List ℕ → List ℕ → ℕ → List ℕ
+nearIn counts nbrs k = take (getD counts k 0) (part 40 nbrs k)
+
 unfoldable pub neighboursAt : VbapPanner → ℕ → List ℕ
-neighboursAt v k = take (getD (v .«num_nbrs») k 0) (part 40 (v .«imag_nbrs») k)
+neighboursAt v k = nearIn (v .«num_nbrs») (v .«imag_nbrs») k
 
 unfoldable pub shapeIn : VbapPanner → Kind → Shape
 shapeIn v Silent = silent

@@ -2,12 +2,13 @@
 // Lengths of arrays: 40 outputs, pairs, planar slots, real points and neighbours of one, 80 triplets and 14 imaginary points (document 01, "Returned numbers", 11). Three numbers a direction are 120; 3 point numbers and 9 inverse entries a triplet, 240 and 720; 14 lists of 40 neighbours, 560.
 ghost use mathlib.Core.Path.{_≡_};
 ghost use mathlib.Core.Bool.{true, _||_};
-ghost use mathlib.Core.List.{[], _∷_, flatMap};
+ghost use mathlib.Core.List.{[], _∷_, map, flatMap};
 ghost use Prim.Native.Nat.{_*_, _≤_};
 ghost use lib.Dec.{ltb, leb};
-ghost use lib.ListN.{length, getD, take};
-ghost use Rattle.lists.specs.Lists.{range, every, any, part};
-ghost use Rattle.layout_record.specs.Malformed.{malformedOf, numOutputsOf};
+ghost use lib.ListN.{length, take};
+ghost use Rattle.lists.specs.Lists.{range, every, any};
+ghost use Rattle.layout_record.specs.Panner.{nearIn};
+ghost use Rattle.layout_record.specs.Malformed.{anyFrom, planarOut, hullOut, malformedOf, numOutputsOf};
 use layout_planar::PlanarPair;
 
 // Which of the four layouts stands; the fields beside it hold the rest.
@@ -70,7 +71,7 @@ fn greatest(xs: &[u8]) -> u8
 // Whether some of the first n bytes is not below the bound. The greatest of all tells it where it is below.
 fn over(xs: &[u8], n: usize, bound: u8) -> bool
     requires { ⌜ n ≤ length (now xs) ⌝ }
-    ensures { λ r. ⌜ r ≡ any (λ x. leb bound x) (take n (now (xs .entry))) ⌝ }
+    ensures { λ r. ⌜ r ≡ anyFrom bound (take n (now (xs .entry))) ⌝ }
 {
     if greatest(xs) < bound {
         return false;
@@ -88,14 +89,14 @@ fn over(xs: &[u8], n: usize, bound: u8) -> bool
 // The same of a whole array by value: a field is copied out of a record, and the record stays where it is.
 fn slots_over(xs: [u8; 40], n: usize, bound: u8) -> bool
     requires { ⌜ n ≤ 40 ⌝ }
-    ensures { λ r. ⌜ r ≡ any (λ x. leb bound x) (take n xs) ⌝ }
+    ensures { λ r. ⌜ r ≡ anyFrom bound (take n xs) ⌝ }
 {
     over(&xs, n, bound)
 }
 
 fn points_over(xs: [u8; 240], n: usize, bound: u8) -> bool
     requires { ⌜ n ≤ 240 ⌝ }
-    ensures { λ r. ⌜ r ≡ any (λ x. leb bound x) (take n xs) ⌝ }
+    ensures { λ r. ⌜ r ≡ anyFrom bound (take n xs) ⌝ }
     ensures long { λ _. ⌜ length xs ≡ 240 ⌝ }
 {
     over(&xs, n, bound)
@@ -111,7 +112,7 @@ fn nbrs_over(xs: [u8; 14]) -> bool
 // The same as `over` of the slots of the first n pairs, of many.
 fn many_over(ps: [PlanarPair; 40], n: usize, bound: u8) -> bool
     requires { ⌜ n ≤ 40 ⌝ }
-    ensures { λ r. ⌜ r ≡ any (λ x. leb bound x) (flatMap (λ p. p .a ∷ p .b ∷ []) (take n ps)) ⌝ }
+    ensures { λ r. ⌜ r ≡ anyFrom bound (flatMap (λ p. p .a ∷ p .b ∷ []) (take n ps)) ⌝ }
 {
     let mut i: usize = 0;
     while i < n {
@@ -129,7 +130,7 @@ fn many_over(ps: [PlanarPair; 40], n: usize, bound: u8) -> bool
 // The same of few.
 fn few_over(ps: [PlanarPair; 8], n: usize, bound: u8) -> bool
     requires { ⌜ n ≤ 8 ⌝ }
-    ensures { λ r. ⌜ r ≡ any (λ x. leb bound x) (flatMap (λ p. p .a ∷ p .b ∷ []) (take n ps)) ⌝ }
+    ensures { λ r. ⌜ r ≡ anyFrom bound (flatMap (λ p. p .a ∷ p .b ∷ []) (take n ps)) ⌝ }
 {
     let mut i: usize = 0;
     while i < n {
@@ -147,7 +148,7 @@ fn few_over(ps: [PlanarPair; 8], n: usize, bound: u8) -> bool
 // The same, where most layouts have few pairs, and only these are copied then.
 fn pairs_over(ps: [PlanarPair; 40], n: usize, bound: u8) -> bool
     requires { ⌜ n ≤ 40 ⌝ }
-    ensures { λ r. ⌜ r ≡ any (λ x. leb bound x) (flatMap (λ p. p .a ∷ p .b ∷ []) (take n ps)) ⌝ }
+    ensures { λ r. ⌜ r ≡ anyFrom bound (flatMap (λ p. p .a ∷ p .b ∷ []) (take n ps)) ⌝ }
 {
     // Origin: the ring of a house seldom has more than 8 speakers; any number up to 40 serves
     if n <= 8 {
@@ -160,7 +161,7 @@ fn pairs_over(ps: [PlanarPair; 40], n: usize, bound: u8) -> bool
 // The same of the neighbours of the first n imaginary points.
 fn neighbours_over<'a>(counts: &'a [u8; 14], xs: &'a [u8; 560], n: usize, bound: u8) -> bool
     requires { ⌜ (n ≤ 14) × (every (λ x. leb x 40) (now counts) ≡ true) ⌝ }
-    ensures { λ r. ⌜ r ≡ any (λ x. leb bound x) (flatMap (λ k. take (getD (now (counts .entry)) k 0) (part 40 (now (xs .entry)) k)) (range n)) ⌝ }
+    ensures { λ r. ⌜ r ≡ anyFrom bound (flatMap (nearIn (now (counts .entry)) (now (xs .entry))) (range n)) ⌝ }
 {
     let all = &xs[..];
     if greatest(all) < bound {
@@ -189,7 +190,7 @@ pub fn planar_over(
     outputs: u8,
 ) -> bool
     requires { ⌜ («num_pairs» ≤ 40) × («num_slots» ≤ 40) ⌝ }
-    ensures { λ r. ⌜ r ≡ any (λ x. leb outputs x) (flatMap (λ p. p .a ∷ p .b ∷ []) (take «num_pairs» pairs)) || any (λ x. leb outputs x) (take «num_slots» slots) ⌝ }
+    ensures { λ r. ⌜ r ≡ planarOut outputs (take «num_pairs» pairs) (take «num_slots» slots) ⌝ }
 {
     pairs_over(pairs, num_pairs, outputs) | slots_over(slots, num_slots, outputs)
 }
@@ -207,7 +208,7 @@ pub fn hull_over(
     points: u8,
 ) -> bool
     requires { ⌜ («num_real» ≤ 40) × («num_imag» ≤ 14) × («num_tris» ≤ 80) × (every (λ x. leb x 40) counts ≡ true) ⌝ }
-    ensures { λ r. ⌜ r ≡ any (λ x. leb outputs x) (take «num_real» out) || any (λ x. leb outputs x) (flatMap (λ k. take (getD counts k 0) (part 40 nbrs k)) (range «num_imag»)) || any (λ x. leb points x) (take («num_tris» * 3) idx) ⌝ }
+    ensures { λ r. ⌜ r ≡ hullOut outputs points (take «num_real» out) (map (nearIn counts nbrs) (range «num_imag»)) (take («num_tris» * 3) idx) ⌝ }
     ensures long { λ _. ⌜ length idx ≡ 240 ⌝ }
 {
     slots_over(out, num_real, outputs)

@@ -2,13 +2,15 @@
 // Origin of the arrays' lengths: document 01, "Returned numbers" (malformed): 40 pairs, slots and real points, these with 3 numbers each, 120; 80 triplets with 3 point numbers each, 240, and an inverse of 9 numbers each, 720;
 // 14 imaginary points with 40 neighbours each, 560. Origin of 11: the same table.
 ghost use mathlib.Core.Path.{_≡_};
-ghost use mathlib.Core.Bool.{true, _||_};
-ghost use mathlib.Core.List.{[], _∷_, flatMap};
+ghost use mathlib.Core.Bool.{true};
+ghost use mathlib.Core.List.{map};
 ghost use Prim.Native.Nat.{_+_, _*_, _≤_, min};
 ghost use lib.Dec.{leb};
-ghost use lib.ListN.{length, getD, set, take, replicate};
-ghost use Rattle.lists.specs.Lists.{range, every, any, part};
+ghost use lib.ListN.{length, set, take, replicate};
+ghost use Rattle.lists.specs.Lists.{range, every};
 ghost use Rattle.float_order.specs.Values.{+0, 1·0};
+ghost use Rattle.layout_record.specs.Panner.{nearIn};
+ghost use Rattle.layout_record.specs.Malformed.{planarOut, hullOut};
 ghost use Rattle.row_planar.specs.PlanarRow.{planarRow};
 ghost use Rattle.row_hull.specs.HullRow.{hullRow};
 ghost use Rattle.row_hull.specs.Inner.Fields.{hullOf};
@@ -55,7 +57,7 @@ fn planar(
     out: &mut [f32],
 ) -> u32
     requires { ⌜ («num_pairs» ≤ 40) × («num_slots» ≤ 40) ⌝ }
-    ensures { λ r. ⌜ Checked (any (λ x. leb outputs x) (flatMap (λ p. p .a ∷ p .b ∷ []) (take «num_pairs» pairs)) || any (λ x. leb outputs x) (take «num_slots» slots)) (planarRow (length (now (out .entry))) az el (take «num_pairs» pairs) (take «num_slots» slots)) (now (out .entry)) r (now (out .exit)) ⌝ }
+    ensures { λ r. ⌜ Checked (planarOut outputs (take «num_pairs» pairs) (take «num_slots» slots)) (planarRow (length (now (out .entry))) az el (take «num_pairs» pairs) (take «num_slots» slots)) (now (out .entry)) r (now (out .exit)) ⌝ }
 {
     if layout_record::planar_over(pairs, num_pairs, slots, num_slots, outputs) {
         return 11;
@@ -80,7 +82,7 @@ fn hull(
     out: &mut [f32],
 ) -> u32
     requires { ⌜ («num_real» ≤ 40) × («num_imag» ≤ 14) × («num_tris» ≤ 80) × (every (λ x. leb x 40) counts ≡ true) ⌝ }
-    ensures { λ r. ⌜ Checked (any (λ x. leb outputs x) (take «num_real» slots) || any (λ x. leb outputs x) (flatMap (λ k. take (getD counts k 0) (part 40 nbrs k)) (range «num_imag»)) || any (λ x. leb («num_real» + «num_imag») x) (take («num_tris» * 3) idx)) (hullRow (length (now (out .entry))) az el (hullOf slots dirs «num_real» idx inv «num_tris» counts nbrs «num_imag»)) (now (out .entry)) r (now (out .exit)) ⌝ }
+    ensures { λ r. ⌜ Checked (hullOut outputs («num_real» + «num_imag») (take «num_real» slots) (map (nearIn counts nbrs) (range «num_imag»)) (take («num_tris» * 3) idx)) (hullRow (length (now (out .entry))) az el (hullOf slots dirs «num_real» idx inv «num_tris» counts nbrs «num_imag»)) (now (out .entry)) r (now (out .exit)) ⌝ }
     ensures long { λ _. ⌜ length idx ≡ 240 ⌝ }
 {
     let points = (num_real + num_imag) as u8;
