@@ -9,7 +9,7 @@ ghost use Rattle.float_order.specs.Values.{+0};
 ghost use Rattle.float_widths.specs.Narrow.{narrowOf};
 ghost use Rattle.vector.specs.Vector.{pointsIn};
 ghost use Rattle.layout_new.specs.Layout.{speakerAt, levelAt, newOf};
-ghost use Rattle.layout_new.specs.Inner.Answers.{hullBuiltOf};
+ghost use Rattle.layout_new.specs.Inner.Answers.{refusedBy, hullBuiltOf};
 ghost use Rattle.layout_new.specs.Inner.Arrays.{heldIn, activeIn, speakersOf, Holds, putOf, nextOf, RingIn, Parts};
 ghost use Rattle.layout_record.specs.Shape.{Shape};
 ghost use Rattle.layout_record.specs.Panner.{laid};
@@ -133,12 +133,21 @@ fn narrowed(dir: &[f64; 120], n: usize) -> [f32; 120]
     r
 }
 
-// ---- the answer, one literal each: a blank record with fields written over it would be moved about whole.
-// The array of no pairs is planar's, of a ring of none: written out here, it would be moved pair by pair.
+// ---- the answer. A layout's is one literal for each shape: a blank record with fields written over it would be moved about whole.
+
+// The answer beside a refusal.
+fn refused(why: u32) -> NewPanner
+    ensures { λ r. ⌜ r ≡ refusedBy why ⌝ }
+{
+    NewPanner {
+        number: why,
+        panner: layout_record::no_panner(),
+        imaginary: 0,
+    }
+}
 
 // The answer without a hull: the pairs and the slots of n speakers on a ring, none where n is 0.
 fn without_hull(
-    number: u32,
     outputs: u8,
     kind: Kind,
     mono: u8,
@@ -147,13 +156,13 @@ fn without_hull(
     n: usize,
 ) -> NewPanner
     requires { ⌜ RingIn n (now out) (now dir) ⌝ }
-    ensures { λ r. ⌜ ((s : Shape) → Parts s kind mono (speakersOf (heldIn (now (out .entry)) (now (dir .entry)) n)) → r ≡ record { number = number; panner = laid (record { outputs = outputs; shape = s }); imaginary = 0 }) ⌝ }
+    ensures { λ r. ⌜ ((s : Shape) → Parts s kind mono (speakersOf (heldIn (now (out .entry)) (now (dir .entry)) n)) → r ≡ record { number = 0; panner = laid (record { outputs = outputs; shape = s }); imaginary = 0 }) ⌝ }
 {
     let made = layout_planar::build_planar(out, dir, n);
     let pairs = made.pairs;
     let slots = *out;
     NewPanner {
-        number,
+        number: 0,
         panner: VbapPanner {
             num_outputs: outputs,
             kind,
@@ -181,13 +190,12 @@ fn build_hull(outputs: u8, out: &[u8; 40], dir: &[f64; 120], n: usize) -> NewPan
     requires { ⌜ Holds (heldIn (now out) (now dir) n) ⌝ }
     ensures { λ r. ⌜ r ≡ hullBuiltOf outputs (speakersOf (heldIn (now (out .entry)) (now (dir .entry)) n)) ⌝ }
 {
-    let slots = [0u8; 40];
-    let closed = layout_closing::close(dir, n);
-    if closed.over {
-        return without_hull(4, 0, Kind::Silent, 0, &slots, dir, 0);
+    let ended = layout_closing::close(dir, n);
+    if ended.over {
+        return refused(4);
     }
-    let imag = closed.imag;
-    let hull = closed.hull;
+    let imag = ended.imag;
+    let hull = ended.hull;
     let idx = hull.idx;
     let inv = hull.inv;
     let tris = hull.count;
@@ -196,8 +204,7 @@ fn build_hull(outputs: u8, out: &[u8; 40], dir: &[f64; 120], n: usize) -> NewPan
     let imag_nbrs = nbrs.imag_nbrs;
     let pt_out = *out;
     let pt_dir = narrowed(dir, n);
-    let none = layout_planar::build_planar(out, dir, 0);
-    let pairs = none.pairs;
+    let pairs = layout_planar::no_pairs();
     NewPanner {
         number: 0,
         panner: VbapPanner {
@@ -207,7 +214,7 @@ fn build_hull(outputs: u8, out: &[u8; 40], dir: &[f64; 120], n: usize) -> NewPan
             num_pairs: 0,
             pairs,
             num_slots: 0,
-            slots,
+            slots: [0; 40],
             num_real: n as u8,
             pt_out,
             pt_dir,
@@ -232,22 +239,22 @@ pub fn new(positions: &[f32], lfe: &[usize]) -> NewPanner
     let mut out = [0u8; 40];
     let mut dir = [0.0; 120];
     if positions.len() % 3 != 0 {
-        return without_hull(1, 0, Kind::Silent, 0, &none, &dir, 0);
+        return refused(1);
     }
     let outputs = positions.len() / 3;
     if 40 < outputs {
-        return without_hull(2, 0, Kind::Silent, 0, &none, &dir, 0);
+        return refused(2);
     }
     let n = active_speakers(&mut out, &mut dir, positions, lfe, outputs);
     let o = outputs as u8;
     if n == 0 {
-        return without_hull(0, o, Kind::Silent, 0, &none, &dir, 0);
+        return without_hull(o, Kind::Silent, 0, &none, &dir, 0);
     }
     if n == 1 {
-        return without_hull(0, o, Kind::Mono, out[0], &none, &dir, 0);
+        return without_hull(o, Kind::Mono, out[0], &none, &dir, 0);
     }
     if all_level(&dir, n) {
-        return without_hull(0, o, Kind::Planar, 0, &out, &dir, n);
+        return without_hull(o, Kind::Planar, 0, &out, &dir, n);
     }
     build_hull(o, &out, &dir, n)
 }

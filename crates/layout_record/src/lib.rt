@@ -7,7 +7,7 @@ ghost use Prim.Native.Nat.{_*_, _≤_};
 ghost use lib.Dec.{ltb, leb};
 ghost use lib.ListN.{length, take};
 ghost use Rattle.lists.specs.Lists.{range, every, any};
-ghost use Rattle.layout_record.specs.Panner.{nearIn};
+ghost use Rattle.layout_record.specs.Panner.{noPanner, nearIn};
 ghost use Rattle.layout_record.specs.Malformed.{anyFrom, planarOut, hullOut, malformedOf, numOutputsOf};
 use layout_planar::PlanarPair;
 
@@ -49,6 +49,31 @@ pub struct VbapPanner {
 pub struct Outputs {
     pub number: u32,
     pub count: usize,
+}
+
+// The record beside a refusal: every place holds 0, +0 or the crossfade.
+pub fn no_panner() -> VbapPanner
+    ensures { λ r. ⌜ r ≡ noPanner ⌝ }
+{
+    let pairs = layout_planar::no_pairs();
+    VbapPanner {
+        num_outputs: 0,
+        kind: Kind::Silent,
+        mono: 0,
+        num_pairs: 0,
+        pairs,
+        num_slots: 0,
+        slots: [0; 40],
+        num_real: 0,
+        pt_out: [0; 40],
+        pt_dir: [0.0; 120],
+        num_tris: 0,
+        idx: [0; 240],
+        inv: [0.0; 720],
+        num_imag: 0,
+        num_nbrs: [0; 14],
+        imag_nbrs: [0; 560],
+    }
 }
 
 // ---- numbers over a bound

@@ -2,28 +2,21 @@
 use Prim.Native.Nat.{ℕ, _%_, _≤_}
 use mathlib.Core.Path.{_≡_, refl, sym, ap, _∙_}
 use mathlib.Core.Bool.{Bool, true, false, _||_, not, cond, false≢true, true≢false}
-use mathlib.Core.List.{List, []}
+use mathlib.Core.List.{List}
 use native.Mathlib.Omega.{arith}
 use borrow.Author.Tests.{ltb-false, eqb-true, eq-eqb, ne-eqb}
 use lib.Dec.{eqb, ltb}
 use lib.Ieee.{Float}
 use lib.ListN.{length}
-use Rattle.lists.specs.Lists.{from, range, collect}
 use Rattle.layout_record.specs.Shape.{imaginaryIn}
-use Rattle.layout_record.specs.Panner.{noPanner}
 use Rattle.lists.proofs.Tests.{neither}
 use Rattle.layout_new.specs.declared.NewPanner.{NewPanner}
-use Rattle.layout_new.specs.Layout.{outputsOf, active, shapeOf, layoutOf, tooManyTriplets, newRefusal, pannerOf, newOf}
+use Rattle.layout_new.specs.Layout.{outputsOf, active, layoutOf, tooManyTriplets, newRefusal, pannerOf, newOf}
 use Rattle.layout_new.specs.Inner.Answers.{accepted}
 use Rattle.layout_new.proofs.Answers.{accepted-is}
 use Rattle.mix_block.specs.Inner.Turns.{mostSources}
 use Rattle.session_open.specs.Open.{fresh, openRefusal, refusedBy, openOf}
 use Rattle.session_open.specs.declared.Opened.{Opened}
-
--- no positions make the record beside a refusal
-pub no-positions : newOf [] [] .panner ≡ noPanner
-unfolding newOf newRefusal pannerOf layoutOf outputsOf active collect range from shapeOf tooManyTriplets noPanner
-no-positions = refl
 
 -- ---- the numbers
 

@@ -1,6 +1,5 @@
 // Open: document 01, "Returned numbers" 1 to 4, and the fresh session of "Session".
 ghost use mathlib.Core.Path.{_≡_};
-ghost use Rattle.layout_record.specs.Panner.{noPanner};
 ghost use Rattle.session_open.specs.Open.{fresh, refusedBy, openOf};
 use layout_record::VbapPanner;
 use mix_block::GAINS;
@@ -28,17 +27,6 @@ fn fresh(panner: VbapPanner, sources: u8) -> Session
     }
 }
 
-// The record of no positions: every place holds 0, +0 or the crossfade.
-fn no_panner() -> VbapPanner
-    ensures { λ r. ⌜ r ≡ noPanner ⌝ }
-{
-    let positions = [0.0f32; 0];
-    let lfe = [0usize; 0];
-    let made = layout_new::new(&positions, &lfe);
-    let panner = made.panner;
-    panner
-}
-
 // The answer beside a refusal.
 fn refused(why: u32) -> Opened
     ensures { λ r. ⌜ r ≡ refusedBy why ⌝ }
@@ -46,7 +34,7 @@ fn refused(why: u32) -> Opened
     Opened {
         number: why,
         imaginary: 0,
-        session: fresh(no_panner(), 0),
+        session: fresh(layout_record::no_panner(), 0),
     }
 }
 

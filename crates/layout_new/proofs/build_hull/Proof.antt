@@ -1,20 +1,12 @@
 -- `layout_new::build_hull` meets its contract: refused where `close` says that a list was too long; else the hull's parts, each as the definition has it. Assumes nothing.
-use mathlib.Core.Path.{sym, ap, _∙_}
+use mathlib.Core.Path.{sym, _∙_}
 use native.Mathlib.Omega.{arith}
 use borrow.Author.Needs.{needs}
 use denote.Ref.{now}
-use Rattle.lists.specs.Lists.{from, range, collect, filled}
-use Rattle.vector.specs.Speakers.{speakersIn}
-use Rattle.layout_planar.specs.declared.Planar.{Planar}
-use Rattle.layout_planar.specs.Planar.{pairsOf}
-use Rattle.layout_planar.specs.Inner.Arrays.{planarIn}
-use Rattle.layout_record.specs.Shape.{silent}
-use Rattle.layout_record.specs.Panner.{noPanner}
 use Rattle.layout_new.specs.Layout.{buildHullOf}
-use Rattle.layout_new.specs.Inner.Answers.{refusedBy}
 use Rattle.layout_new.specs.Inner.Arrays.{Active, heldIn, speakersOf}
 use Rattle.layout_new.proofs.Building.{Made, over-is, made, imag-few, numbered, num-nbrs-are, imag-nbrs-are, imag-length, narrowed-are, hull-refused, hull-accepted}
-use Rattle.layout_new.proofs.Laid.{no-ring, silent-parts, laid-hull}
+use Rattle.layout_new.proofs.Laid.{laid-hull}
 use Rattle.layout_new.proofs.Speakers.{count-is, slots-count, out-is, dir-long}
 use Rattle.layout_new.proofs.build_hull.Statement.{statement}
 use Rattle.layout_new.proofs.build_hull.Tie as tie
@@ -30,15 +22,14 @@ made-here w = made (lent (w .before .before)) (w .before .close .result) (w .bef
 close-requires : tie.Need-close-requires
 close-requires c κs = search needs
 
-without-hull-requires : tie.Need-without-hull-requires
-without-hull-requires c κs = no-ring (dir-long (lent (c .before .before .before)) (c .before .before .before .pre))
+refused-requires : tie.Need-refused-requires
+refused-requires c κs = search needs
 
 returns : tie.Need-returns
-unfolding refusedBy noPanner
 returns c =
-    let s = c .before .before .before .before in
-    c .without-hull .ensures silent (silent-parts _ _)
-    ∙ hull-refused (s .args .outputs) (speakersOf (lent s)) (sym (over-is (lent s) (c .before .before .before .close .result) (c .before .before .before .close .ensures)) ∙ c .before .before .if1 .taken)
+    let e = c .before .before .close in
+    let s = c .before .before .before in
+    c .refused .ensures ∙ hull-refused (s .args .outputs) (speakersOf (lent s)) (sym (over-is (lent s) (e .result) (e .ensures)) ∙ c .before .if1 .taken)
 
 add-neighbours : tie.Need-add-neighbours
 add-neighbours c =
@@ -55,35 +46,35 @@ neighbours-requires c κs =
 narrowed-requires : tie.Need-narrowed-requires
 narrowed-requires c κs = let s = c .before .before .before .before .before .before .before .before .before .before in (s .pre .few, dir-long (lent s) (s .pre))
 
-build-planar-requires : tie.Need-build-planar-requires
-build-planar-requires c κs = let s = c .before .before .before .before .before .before .before .before .before .before .before in (omega arith, dir-long (lent s) (s .pre))
+no-pairs-requires : tie.Need-no-pairs-requires
+no-pairs-requires c κs = search needs
 
-cast-t26 : tie.Need-cast-t26
-cast-t26 c = search needs
+cast-t22 : tie.Need-cast-t22
+cast-t22 c = search needs
 
-cast-t27 : tie.Need-cast-t27
-cast-t27 c = let m = made-here (c .before .before .before .before .before .before .before .before .before .before .before) in omega (arith, m .few, m .count)
+cast-t23 : tie.Need-cast-t23
+cast-t23 c = let m = made-here (c .before .before .before .before .before .before .before .before .before .before) in omega (arith, m .few, m .count)
 
-cast-t29 : tie.Need-cast-t29
-cast-t29 c =
-    let w = c .before .before .before .before .before .before .before .before .before .before .before in
+cast-t25 : tie.Need-cast-t25
+cast-t25 c =
+    let w = c .before .before .before .before .before .before .before .before .before .before in
     let s = w .before .before in
     omega (arith, imag-few (lent s) (s .pre) _ (made-here w))
 
 returns-2 : tie.Need-returns-2
-unfolding buildHullOf planarIn speakersIn pairsOf filled collect range from
+unfolding buildHullOf
 returns-2 c =
-    let w = c .before .before .before .before .before .before .before .before .before .before .before in
+    let w = c .before .before .before .before .before .before .before .before .before .before in
     let s = w .before .before in
     let a = lent s in
     let act = speakersOf a in
     let m = made-here w in
     let r = w .before .close .result in
-    let found = c .before .before .before .before .before .before .neighbours in
+    let found = c .before .before .before .before .before .neighbours in
     let imag = imag-length a (s .pre) r m in
     hull-accepted (s .args .outputs) act (m .fits)
-    (laid-hull (s .args .outputs) (buildHullOf act) (ap (λ (q : Planar). q .pairs) (c .before .build-planar .ensures)) (sym (slots-count act ∙ count-is a))
-    (out-is a (s .pre)) (c .before .before .narrowed .ensures ∙ narrowed-are a (s .pre)) (m .count) (m .idx) (m .inv) imag
+    (laid-hull (s .args .outputs) (buildHullOf act) (c .no-pairs .ensures) (sym (slots-count act ∙ count-is a))
+    (out-is a (s .pre)) (c .before .narrowed .ensures ∙ narrowed-are a (s .pre)) (m .count) (m .idx) (m .inv) imag
     (num-nbrs-are a (s .pre) r m (found .result) (found .ensures)) (imag-nbrs-are a (s .pre) r m (found .result) (found .ensures)))
     imag
 
@@ -92,13 +83,13 @@ build-hull-spec =
     tie.close
     (tie.spec
     close-requires
-    without-hull-requires
+    refused-requires
     returns
     add-neighbours
     neighbours-requires
     narrowed-requires
-    build-planar-requires
-    cast-t26
-    cast-t27
-    cast-t29
+    no-pairs-requires
+    cast-t22
+    cast-t23
+    cast-t25
     returns-2)

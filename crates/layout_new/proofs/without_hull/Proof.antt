@@ -16,16 +16,16 @@ use Rattle.layout_new.proofs.without_hull.Tie as tie
 build-planar-requires : tie.Need-build-planar-requires
 build-planar-requires c κs = search needs
 
-cast-t11 : tie.Need-cast-t11
+cast-t10 : tie.Need-cast-t10
 unfolding planarIn speakersOf
-cast-t11 c =
+cast-t10 c =
     let s = c .before .before .before .before in
     let a = heldIn (now (s .args .out)) (now (s .args .dir)) (s .args .n) in
     let e = ap (λ (p : Planar). p .«num_pairs») (c .before .before .before .build-planar .ensures) in
     omega (arith, e, pairs-few (speakersOf a), count-is a, s .pre .few)
 
-cast-t12 : tie.Need-cast-t12
-cast-t12 c = search needs
+cast-t11 : tie.Need-cast-t11
+cast-t11 c = search needs
 
 returns : tie.Need-returns
 unfolding planarIn speakersOf ofBits
@@ -34,8 +34,8 @@ returns c =
     let g = c .before .before .before .before in
     let a = heldIn (now (g .args .out)) (now (g .args .dir)) (g .args .n) in
     let made = c .before .before .before .build-planar .ensures in
-    ap (λ (v : VbapPanner). record { number = g .args .number; panner = v; imaginary = 0 })
+    ap (λ (v : VbapPanner). record { number = 0; panner = v; imaginary = 0 })
     (laid-parts (g .args .outputs) s p (ap (λ (q : Planar). q .«num_pairs») made) (ap (λ (q : Planar). q .pairs) made) (sym (slots-count (speakersOf a) ∙ count-is a)) (g .pre .slots))
 
 pub without-hull-spec : {M : Type 1} → statement M
-without-hull-spec = tie.close (tie.spec build-planar-requires cast-t11 cast-t12 returns)
+without-hull-spec = tie.close (tie.spec build-planar-requires cast-t10 cast-t11 returns)

@@ -1,4 +1,4 @@
--- `session_open::refused` meets its contract: a fresh session of no sources over the record of no positions. Assumes nothing.
+-- `session_open::refused` meets its contract: a fresh session of no sources over the record of no layout. Assumes nothing.
 use mathlib.Core.Path.{ap, _∙_}
 use Rattle.layout_record.specs.declared.VbapPanner.{VbapPanner}
 use Rattle.session_open.specs.Open.{fresh, noSession, refusedBy}
