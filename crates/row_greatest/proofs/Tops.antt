@@ -1,5 +1,5 @@
 -- The greatest number of a list: one number after the other, of two parts, and in eight lanes. What is not above one of two numbers is not above the greater. Assumes nothing.
-use Prim.Native.Nat.{ℕ, _+_, _≤_, _<_}
+use Prim.Native.Nat.{ℕ, _+_, _%_, _≤_, _<_}
 use mathlib.Core.Path.{_≡_, refl, sym, subst}
 use mathlib.Core.Bool.{Bool, true, false}
 use mathlib.Core.List.{List}
@@ -13,7 +13,7 @@ use lib.ListN.{length, getD, set, replicate, getD-replicate}
 use lib.Seq.{getD-set-same, getD-set-other}
 use lib.Ieee.{Float, nan, inf, isNan, lt}
 use Rattle.angle_sort.proofs.Angles.{float-lt-self}
-use Rattle.row_greatest.specs.Inner.Steps.{greaterOf, Held, Top, Under, Lanes}
+use Rattle.row_greatest.specs.Inner.Steps.{greaterOf, Held, Top, Lanes}
 use Rattle.angle_sort.proofs.FloatOrder.{not-above, not-over, above-low, high-number}
 
 -- ---- the greater of two
@@ -96,20 +96,20 @@ set-by P b k j x h here there = by (eqb j k) refl
 
 module _ (l : List Float) where
   pub lanes-none : Lanes l 0 (replicate 8 (inf true))
-  lanes-none = record { under = λ j h. absurd (not-suc-le-zero h); held = λ k h. inl (getD-replicate 8 k (inf true) nan h) }
+  lanes-none = record { none-above = λ j h. absurd (not-suc-le-zero h); held = λ k h. inl (getD-replicate 8 k (inf true) nan h) }
 
-  pub lanes-more : (i k : ℕ) (b : List Float) → length b ≡ 8 → k < 8 → Lanes l i b → Lanes l (i + 1) (set b k (greaterOf (getD b k nan) (getD l i nan)))
-  lanes-more i k b long h a =
+  -- place i goes to lane k
+  pub lanes-more : (i k : ℕ) (b : List Float) → length b ≡ 8 → i % 8 ≡ k → Lanes l i b → Lanes l (i + 1) (set b k (greaterOf (getD b k nan) (getD l i nan)))
+  lanes-more i k b long lane a =
       let x = getD l i nan in
       let m = greaterOf (getD b k nan) x in
+      let h : k < 8 = omega arith in
       let w : k < length b = omega arith in
       record {
-        under =
-            below-more (λ j. Under (set b k m) (getD l j nan)) i
-            (λ j q.
-            let u = a .under j q in
-            record { lane = u .lane; within = u .within; not-above = set-by (λ v. lt v (getD l j nan) ≡ false) b k (u .lane) m w (λ e. greater-keeps (getD b k nan) x (getD l j nan) (subst (λ (o : ℕ). lt (getD b o nan) (getD l j nan) ≡ false) e (u .not-above))) (u .not-above) })
-            (record { lane = k; within = h; not-above = subst (λ (v : Float). lt v x ≡ false) (sym (getD-set-same b k m nan w)) (greater-takes (getD b k nan) x) });
+        none-above =
+            below-more (λ j. lt (getD (set b k m) (j % 8) nan) (getD l j nan) ≡ false) i
+            (λ j q. set-by (λ v. lt v (getD l j nan) ≡ false) b k (j % 8) m w (λ e. greater-keeps (getD b k nan) x (getD l j nan) (rw e at (a .none-above j q))) (a .none-above j q))
+            (rw (lane, getD-set-same b k m nan w) (greater-takes (getD b k nan) x));
         held = λ j q. set-by (Held l 0 (i + 1)) b k j m w (λ e. held-more l 0 i (getD b k nan) (omega arith) (a .held k h)) (held-wider l 0 i 0 (i + 1) (getD b j nan) (omega arith) (omega arith) (a .held j q));
       }
 
@@ -118,7 +118,7 @@ module _ (l : List Float) where
   lanes-top n b g a t =
       record {
         none-above = λ j p q.
-            let u = a .under j q in
-            not-over g (getD b (u .lane) nan) (getD l j nan) (held-number l 0 n (getD b (u .lane) nan) (a .held (u .lane) (u .within))) (t .none-above (u .lane) (omega arith) (u .within)) (u .not-above);
+            let h : j % 8 < 8 = omega arith in
+            not-over g (getD b (j % 8) nan) (getD l j nan) (held-number l 0 n (getD b (j % 8) nan) (a .held (j % 8) h)) (t .none-above (j % 8) (omega arith) h) (a .none-above j q);
         held = ⊎-elim (λ e. inl e) (λ s. subst (Held l 0 n) (s .is) (a .held (s .place) (s .to))) (t .held);
       }

@@ -3,7 +3,7 @@
 // Origin of -infinity, written -1.0 / 0.0: f32::NEG_INFINITY of vbap.rs lines 518 and 535, where nothing is chosen yet.
 ghost use mathlib.Core.Path.{_≡_};
 ghost use mathlib.Core.Bool.{true};
-ghost use Prim.Native.Nat.{_+_, _*_, _≤_};
+ghost use Prim.Native.Nat.{_+_, _*_, _%_, _≤_};
 ghost use lib.ListN.{length, take};
 ghost use Rattle.row_greatest.specs.Greatest.{firstGreatest};
 ghost use Rattle.row_greatest.specs.Inner.Steps.{greaterOf, Top, Lanes, passed, AllPassed, FirstKept};
@@ -33,7 +33,7 @@ fn greatest_between(l: &[f32], from: usize, to: usize) -> f32
 
 // Eight lanes, each with the number at its place among the eight from t on.
 fn raised(lanes: [f32; 8], l: &[f32], t: usize) -> [f32; 8]
-    requires { ⌜ (t + 8 ≤ length (now l)) × Lanes (now l) t lanes ⌝ }
+    requires { ⌜ (t % 8 ≡ 0) × (t + 8 ≤ length (now l)) × Lanes (now l) t lanes ⌝ }
     ensures { λ r. ⌜ Lanes (now (l .entry)) (t + 8) r ⌝ }
 {
     let mut b = lanes;

@@ -1,5 +1,5 @@
 -- `row_greatest::raised` meets its contract. The loop's invariant: the numbers up to t + k are in the lanes. Assumes nothing.
-use Prim.Native.Nat.{ℕ, _+_, _≤_, _-_}
+use Prim.Native.Nat.{ℕ, _+_, _%_, _≤_, _-_}
 use mathlib.Core.Path.{_≡_, sym, subst}
 use denote.Ref.{now}
 use lib.ListN.{length, set, length-set}
@@ -21,7 +21,7 @@ loop-holds : tie.Need-loop-holds Inv-loop μ-loop
 loop-holds c =
     let s = c .before in
     let e : s .args .t ≡ s .args .t + 0 = omega arith in
-    (omega arith, omega arith, subst (λ (n : ℕ). Lanes (now (s .args .l)) n (s .args .lanes)) e (s .pre .1))
+    (omega arith, omega arith, subst (λ (n : ℕ). Lanes (now (s .args .l)) n (s .args .lanes)) e (s .pre .2))
 
 mul-greater : tie.Need-mul-greater Inv-loop μ-loop
 mul-greater c = omega arith
@@ -57,12 +57,13 @@ loop-again : tie.Need-loop-again Inv-loop μ-loop
 loop-again c =
     let a = c .before .before .before .before .before .args in
     let l = c .before .before .before .loop in
-    let e : a .t + l .k + 1 ≡ a .t + (l .k + 1) = omega arith in (
+    let e : a .t + l .k + 1 ≡ a .t + (l .k + 1) = omega arith in
+    let lane : (a .t + l .k) % 8 ≡ l .k = omega arith in (
       omega arith,
       simp length-set (l .inv .1),
       subst (λ (n : ℕ). Lanes (now (a .l)) n (set (l .b) (l .k) (c .greater .result))) e
           (subst (λ (x : Float). Lanes (now (a .l)) (a .t + l .k + 1) (set (l .b) (l .k) x)) (sym (c .greater .ensures))
-          (lanes-more (now (a .l)) (a .t + l .k) (l .k) (l .b) (l .inv .1) (omega arith) (l .inv .2))),
+          (lanes-more (now (a .l)) (a .t + l .k) (l .k) (l .b) (l .inv .1) lane (l .inv .2))),
     )
 
 returns : tie.Need-returns Inv-loop μ-loop

@@ -1,5 +1,5 @@
 -- What the parts of the search promise one another. Origin of 8: two vectors of four 32-bit floats, which the compiler compares at once; the search's result does not depend on it. Assumes nothing.
-use Prim.Native.Nat.{ℕ, _≤_, _<_}
+use Prim.Native.Nat.{ℕ, _%_, _≤_, _<_}
 use mathlib.Core.Path.{_≡_}
 use mathlib.Core.Bool.{Bool, true, false, _||_, cond}
 use mathlib.Core.List.{List}
@@ -29,15 +29,12 @@ pub record Top (l : List Float) (a b : ℕ) (g : Float) : Type 0 where
   pub none-above : (j : ℕ) → a ≤ j → j < b → lt g (getD l j nan) ≡ false
   pub held : Held l a b g
 
--- y is not above all of eight
-pub record Under (lanes : List Float) (y : Float) : Type 0 where
-  pub lane : ℕ
-  pub within : lane < 8
-  pub not-above : lt (getD lanes lane nan) y ≡ false
-
--- no number of the first n is above all of eight, and each of the eight is one of them; or −∞
+-- Eight lanes, and the rest behind the last full eight (here of 19 numbers), which is taken one after the other:
+--   place  0 1 2 3 4 5 6 7 | 8 9 10 11 12 13 14 15 | 16 17 18
+--   lane   0 1 2 3 4 5 6 7 | 0 1  2  3  4  5  6  7 |  rest
+-- of the first n numbers none is above its lane, and each lane is one of them; or −∞
 pub record Lanes (l : List Float) (n : ℕ) (lanes : List Float) : Type 0 where
-  pub under : (j : ℕ) → j < n → Under lanes (getD l j nan)
+  pub none-above : (j : ℕ) → j < n → lt (getD lanes (j % 8) nan) (getD l j nan) ≡ false
   pub held : (k : ℕ) → k < 8 → Held l 0 n (getD lanes k nan)
 
 -- ---- its first place
