@@ -2,7 +2,7 @@
 use mathlib.Core.Path.{_≡_, sym, ap, _∙_}
 use mathlib.Core.Logic.{inl, inr}
 use Prim.Native.Nat.{ℕ, _+_, _-_, _*_, _/_, _%_, _^_, _≤_, _<_}
-use native.Mathlib.Nat.{mul-add, add-mul, mul-comm, mul-right-comm, mul-mul-mul-comm, mul-le-mul, mul-one, eq-zero-or-pos}
+use native.Mathlib.Nat.{mul-add, add-mul, mul-comm, mul-right-comm, mul-mul-mul-comm, mul-le-mul, mul-one, mod-eq-of-lt, eq-zero-or-pos}
 use native.Mathlib.Omega.{arith}
 use Rattle.float_widths.proofs.Grid.{le-or-lt}
 
@@ -45,18 +45,19 @@ halves q h =
       lower = omega arith;
     }
 
--- d, e and w are differences that may have wrapped; each small one has not
-pub tested : (n q a b d e w : ℕ) → n < 2 ^ 54 → q < 2 ^ 53 → Halves q a b → (d + a * a) % 2 ^ 64 ≡ n → d < 2 ^ 29 → (e + a * b * 2) % 2 ^ 64 ≡ d * 2 ^ 26 + 2 ^ 30 → e < 2 ^ 31
-    → (w + (2 ^ 56 + 1 + b * b)) % 2 ^ 64 ≡ e * 2 ^ 26 + q → w < q * 2 → IsNearest (n * 2 ^ 52) q
-tested n q a b d e w N Q h D d' E e' W w' =
-    let s = h .square in
-    let aa = h .upper in
-    let ab = h .mixed in
-    let bb = h .lower in
-    let x : n ≡ d + a * a = omega arith in
-    let y : d * 2 ^ 26 + 2 ^ 30 ≡ e + a * b * 2 = omega arith in
-    let z : e * 2 ^ 26 + q ≡ w + (2 ^ 56 + 1 + b * b) = omega arith in
-    (omega arith, omega arith)
+-- a wrapped sum that is below 2 ^ 64 has not wrapped
+pub unwrapped : (x y : ℕ) {z : ℕ} → (x + y) % 2 ^ 64 ≡ z → x + y < 2 ^ 64 → x + y ≡ z
+unwrapped x y e h = sym (mod-eq-of-lt h) ∙ e
+
+-- the steps of the test: from n * 2 ^ 52 the parts of the square are taken off, in units of 2 ^ 52, of 2 ^ 26 (with 2 ^ 30 more) and of 1 (with q - 1 more)
+pub record Steps (n q a b upper mixed lower : ℕ) : Type 0 where
+  pub first : upper + a * a ≡ n
+  pub second : mixed + a * b * 2 ≡ upper * 2 ^ 26 + 2 ^ 30
+  pub third : lower + (2 ^ 56 + 1 + b * b) ≡ mixed * 2 ^ 26 + q
+
+-- together: lower is n * 2 ^ 52 - q * q + q - 1
+pub stepped : {n q a b upper mixed lower : ℕ} → Halves q a b → Steps n q a b upper mixed lower → lower < q * 2 → IsNearest (n * 2 ^ 52) q
+stepped h s l = (omega (arith, h .square, s .first, s .second, s .third), omega (arith, h .square, s .first, s .second, s .third))
 
 -- ---- the 24 digits of a candidate: a carry to 2 ^ 24 is no root
 pub no-carry : (n q : ℕ) → n < 2 ^ 25 - 1 → q * q < n * 2 ^ 23 + q → q ≤ 2 ^ 24 → q < 2 ^ 24

@@ -33,26 +33,29 @@ pub fn root_by_digits(m: u64) -> Found
     Found { root, rem }
 }
 
-// Whether q is the root of n * 2^52 to the nearest whole number: whether that lies above q * q - q and not above q * q + q.
-// With q = a * 2^26 + b, d is n - a * a, e is d * 2^26 - 2 * a * b + 2^30, and w is n * 2^52 - q * q + q - 1, each wrapped where it is negative.
+// Whether q is the root of n * 2^52 to the nearest whole number: whether n * 2^52 - q * q is above -q and not above q.
+// The products do not fit a word. So q is a * 2^26 + b, and the three parts of its square, a * a * 2^52, 2 * a * b * 2^26 and b * b, are taken off one after the other, each difference in its own unit.
+// A difference that is negative wraps and is 2^63 or more. So what passes a bound has not wrapped, and the next step counts on from the true difference. What a bound refuses is answered with false, of which nothing is promised: that the bounds suit a root is argued beside them and not proved.
 fn is_root52(n: u64, q: u64) -> bool
     requires { ⌜ (n < 2 ^ 54) × (q < 2 ^ 53) ⌝ }
     ensures { λ r. ⌜ (r ≡ true → (q * q < n * 2 ^ 52 + q) × (n * 2 ^ 52 ≤ q * q + q)) ⌝ }
 {
-    // Origin: 2^26. Of a root, d is below 2^29 and e below 2^31
+    // Origin: 2^26, half of the digits
     let a = q / 0x400_0000;
     let b = q % 0x400_0000;
-    let d = std::num::wrapping_sub_u64(n, a * a);
-    if d >= 0x2000_0000 {
+    // Step 1, in units of 2^52: n less the upper part. Bound 2^29: of a root the other two parts and q are left, below 2^28 + 3 units. The only roots refused have b = 0 and n = a * a - 1.
+    let upper = std::num::wrapping_sub_u64(n, a * a);
+    if upper >= 0x2000_0000 {
         return false;
     }
-    let e = std::num::wrapping_sub_u64(d * 0x400_0000 + 0x4000_0000, a * b * 2);
-    if e >= 0x8000_0000 {
+    // Step 2, in units of 2^26: that less the mixed part, and 2^30 more, since it may be negative. Bound 2^31: of a root the lower part and q are left, below 2^28 units to either side.
+    let mixed = std::num::wrapping_sub_u64(upper * 0x400_0000 + 0x4000_0000, a * b * 2);
+    if mixed >= 0x8000_0000 {
         return false;
     }
-    // Origin: 2^56 is 2^30 * 2^26
-    let w = std::num::wrapping_sub_u64(e * 0x400_0000 + q, 0x100_0000_0000_0001 + b * b);
-    w < q * 2
+    // Step 3, in ones: that less the lower part, and less 2^56, which is step 2's 2^30 in ones, with q - 1 more. Bound 2 * q, the question itself: above -q and not above q, with q - 1 more, is from 0 to 2 * q - 1.
+    let lower = std::num::wrapping_sub_u64(mixed * 0x400_0000 + q, 0x100_0000_0000_0001 + b * b);
+    lower < q * 2
 }
 
 // The digits of g where they are the root of n * 2^52 to the nearest whole number, else 0.

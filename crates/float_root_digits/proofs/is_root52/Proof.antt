@@ -1,11 +1,11 @@
 -- `float_root_digits::is_root52` meets its contract: differences that come out small have not wrapped, and add up to that of n * 2 ^ 52 and the square. Assumes nothing.
 use mathlib.Core.Path.{sym, subst}
-use Prim.Native.Nat.{_/_, _%_, _^_}
+use Prim.Native.Nat.{_+_, _*_, _/_, _%_, _^_, _<_}
 use native.Mathlib.Omega.{arith}
 use borrow.Author.Needs.{needs}
 use borrow.Author.Tests.{ltb-true}
 use lib.Dec.{T}
-use Rattle.float_root_digits.proofs.Digits.{Halves, halves, tested}
+use Rattle.float_root_digits.proofs.Digits.{Halves, halves, unwrapped, stepped}
 use Rattle.float_root_digits.proofs.is_root52.Statement.{statement}
 use Rattle.float_root_digits.proofs.is_root52.Tie as tie
 
@@ -60,10 +60,18 @@ mul-result c = search needs
 returns-3 : tie.Need-returns-3
 returns-3 c h =
     let s = c .before .before .before .before .before in
-    let d = c .before .before .before .before .wrapping-sub-u64 in
-    let e = c .before .before .wrapping-sub-u642 in
+    let a = s .args .q / 2 ^ 26 in
+    let b = s .args .q % 2 ^ 26 in
+    let p = parts s in
+    let u = c .before .before .before .before .wrapping-sub-u64 in
+    let m = c .before .before .wrapping-sub-u642 in
     let w = c .wrapping-sub-u643 in
-    tested (s .args .n) (s .args .q) _ _ (d .result) (e .result) (w .result) (s .pre .0) (s .pre .1) (parts s) (d .ensures) (c .before .before .before .if1 .left) (e .ensures) (c .before .if2 .left) (w .ensures) (ltb-true _ _ h)
+    let small : w .result < s .args .q * 2 = ltb-true _ _ h in
+    stepped p (record {
+      first = unwrapped (u .result) (a * a) (u .ensures) (omega (arith, p .upper, c .before .before .before .if1 .left));
+      second = unwrapped (m .result) (a * b * 2) (m .ensures) (omega (arith, p .mixed, c .before .if2 .left));
+      third = unwrapped (w .result) (2 ^ 56 + 1 + b * b) (w .ensures) (omega (arith, p .lower, small, s .pre .1));
+    }) small
 
 pub is-root52-spec : {M : Type 1} → statement M
 is-root52-spec =
