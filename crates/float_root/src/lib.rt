@@ -15,26 +15,30 @@ struct Parts {
     k: u32,
 }
 
-// The root of m * 2^j / 2^low, rounded at a format with 55 - w digits and low = base + 46: q * 2^k of the smallest values.
-// The root's 55 digits, and one more that says whether anything is left, are enough to round by.
-fn root_parts(m: u64, j: u32, base: u32, w: u32) -> Parts
-    requires { ⌜ (0 < m) × (m < 2 ^ 63) × (j < 4096) × (63 ≤ base) × (base < 4096) × (0 < w) × (w < 54) ⌝ }
-    ensures { λ r. ⌜ ((f : Format) → prec f + w ≡ 55 → low f ≡ base + 46 → (r .q ≤ 2 ^ prec f) × (2 ^ (prec f - 1) ≤ r .q) × (units f false (r .q) (r .k) ≡ roundRoot f (m * 2 ^ j * 2 ^ low f))) ⌝ }
+// The root of m * 2^j / 2^low, rounded to 55 - dropped digits: q * 2^k of the format's smallest values, 2^-low. scale is low - 46, since `root_by_digits` puts 46 zeros behind its number.
+// In smallest values it is the root of m * 2^(j + low), which is (m << shift) * 2^46 * 4^half: the root of m << shift with its zeros, times 2^half.
+// shift: as many of m's leading zeros as leave the exponent j + scale - shift even, all of them or all but one. half: half of that exponent.
+// The root has 55 digits. They, and one more that says whether anything is left, are enough to round by: dropped + 1 of these 56 go.
+// The root of 2 as an f32: m = 2^23, j = 127, scale = 103, dropped = 31, as 2^23 * 2^127 / 2^149 = 2. There are 40 zeros, 40 + 127 + 103 is even: shift = 40, half = (127 + 103 - 40) / 2 = 95.
+// The root of 2^63 * 2^46 is 25476206690103090, with something left: q is 50952413380206181 / 2^32 = 11863283.2 rounded, 11863283; k = 126; q * 2^126 / 2^149 = 1.41421354, the pattern 3fb504f3.
+fn root_parts(m: u64, j: u32, scale: u32, dropped: u32) -> Parts
+    requires { ⌜ (0 < m) × (m < 2 ^ 63) × (j < 4096) × (63 ≤ scale) × (scale < 4096) × (0 < dropped) × (dropped < 54) ⌝ }
+    ensures { λ r. ⌜ ((f : Format) → prec f + dropped ≡ 55 → low f ≡ scale + 46 → (r .q ≤ 2 ^ prec f) × (2 ^ (prec f - 1) ≤ r .q) × (units f false (r .q) (r .k) ≡ roundRoot f (m * 2 ^ j * 2 ^ low f))) ⌝ }
 {
-    let z = u64::leading_zeros(m);
-    let c = z - (z + j + base) % 2;
-    let d = (j + base - c) / 2;
-    let r = float_root_digits::root_by_digits(m << c);
+    let zeros = u64::leading_zeros(m);
+    let shift = zeros - (zeros + j + scale) % 2;
+    let half = (j + scale - shift) / 2;
+    let r = float_root_digits::root_by_digits(m << shift);
     let root = r.root;
     if r.rem == 0 {
         Parts {
-            q: float_widths::round_shift(root * 2, w + 1),
-            k: d + w,
+            q: float_widths::round_shift(root * 2, dropped + 1),
+            k: half + dropped,
         }
     } else {
         Parts {
-            q: float_widths::round_shift(root * 2 + 1, w + 1),
-            k: d + w,
+            q: float_widths::round_shift(root * 2 + 1, dropped + 1),
+            k: half + dropped,
         }
     }
 }
