@@ -1,22 +1,21 @@
 -- Laws of the neighbours laid flat: at most 40 of each point, since their slots are distinct and below 40, and one point more. Assumes nothing.
 use Prim.Native.Nat.{ℕ, suc, _+_, _-_, _*_, _≤_, _<_, zero-le}
 use mathlib.Core.Path.{_≡_, refl, sym, ap, _∙_}
-use mathlib.Core.Bool.{false≢true}
 use mathlib.Core.List.{List, [], _∷_, _++_, map, map-append, flatMap, append-assoc}
 use native.Mathlib.Omega.{arith}
 use lib.ListN.{length, getD, set, take, drop, replicate, length-append, length-map}
 use lib.Seq.{append-snoc, take-at, drop-at, getD-take}
-use Rattle.lists.specs.Lists.{any, from, filled, Each, Once}
+use Rattle.lists.specs.Lists.{Once, from, filled, Each}
 use Rattle.lists.proofs.Ranges.{from-snoc, length-from}
 use Rattle.lists.proofs.Filled.{length-filled, set-filled-at}
 use Rattle.lists.proofs.Collect.{flatMap-append}
-use Rattle.lists.proofs.Once.{not-member, once-snoc, pigeonhole}
+use Rattle.lists.proofs.Once.{not-member, once-snoc}
 use Rattle.layout_neighbours.specs.Neighbours.{Reach, reach, neighboursOf}
 use Rattle.layout_neighbours.specs.Inner.Flat.{neighboursIn}
-use Rattle.layout_neighbours.specs.Inner.Search.{Within, Slots, foundIn}
+use Rattle.layout_neighbours.specs.Inner.Search.{Among, Slots, foundIn}
 use Rattle.layout_neighbours.specs.declared.Found.{Found}
 use Rattle.layout_neighbours.specs.declared.ImagNbrs.{ImagNbrs}
-use Rattle.layout_neighbours.proofs.Within.{within-snoc}
+use Rattle.layout_neighbours.proofs.Among.{among-none, among-snoc, among-few}
 use Rattle.layout_neighbours.proofs.Holds.{slots-long}
 use Rattle.lists.proofs.Each.{each-imply, each-map, each-from, each-filled, length-rows}
 use Rattle.layout_neighbours.proofs.Sound.{reach-keeps, pass-always, passes-keeps}
@@ -38,15 +37,14 @@ module _ (l : List ℕ) (ts : List (List ℕ)) (p : ℕ) where
       p tt Once (λ r d. d)
 
   module _ (low : (k : ℕ) → k < length l → getD l k 0 < 40) where
-    pub neighbours-below : Within 0 40 (neighboursOf l ts p)
-    unfolding any
+    neighbours-below : Among 0 40 (neighboursOf l ts p)
     neighbours-below =
-        search-keeps (λ r. Within 0 40 (r .nbrs)) l ts
-        (λ r q w. reach-keeps (λ s. Within 0 40 (s .nbrs)) l r q w (λ g e. within-snoc 0 40 (r .nbrs) (getD l q 0) w zero-le (low q g)) (λ g e f. w))
-        p (λ s e. absurd (false≢true e)) (Within 0 40) (λ r w. w)
+        search-keeps (λ r. Among 0 40 (r .nbrs)) l ts
+        (λ r q m. reach-keeps (λ s. Among 0 40 (s .nbrs)) l r q m (λ g e. among-snoc 0 40 (r .nbrs) (getD l q 0) m e zero-le (low q g)) (λ g e f. m))
+        p (among-none 0 40) (Among 0 40) (λ r m. m)
 
     pub neighbours-few : length (neighboursOf l ts p) ≤ 40
-    neighbours-few = pigeonhole 40 0 (neighboursOf l ts p) neighbours-once neighbours-below
+    neighbours-few = among-few 40 0 (neighboursOf l ts p) neighbours-below
 
 -- ---- rows of n in a flat list
 

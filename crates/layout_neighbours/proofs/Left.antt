@@ -1,7 +1,7 @@
 -- Laws of the loop of passes: what is left to do from a state that the arrays hold gives the neighbours of p. Assumes nothing.
 use Prim.Native.Nat.{ℕ, _+_, _*_, _≤_, _<_}
 use mathlib.Core.Path.{_≡_, refl, sym, ap, _∙_}
-use mathlib.Core.Bool.{Bool, true, false, not, _||_, false≢true}
+use mathlib.Core.Bool.{Bool, true, false, not, _||_}
 use mathlib.Core.List.{List, [], _∷_}
 use native.Mathlib.Omega.{arith}
 use lib.Dec.{eqb}
@@ -12,9 +12,8 @@ use Rattle.lists.proofs.Filled.{filled-none}
 use Rattle.lists.proofs.Each.{each-map, each-range}
 use Rattle.layout_neighbours.specs.Neighbours.{Reach, pass, passes, neighboursOf}
 use Rattle.layout_neighbours.specs.Inner.Flat.{triplesIn, Numbered}
-use Rattle.layout_neighbours.specs.Inner.Search.{Holds, Points, Slots, foundIn}
-use Rattle.layout_neighbours.specs.declared.Counts.{Counts}
-use Rattle.layout_neighbours.specs.declared.Found.{Found}
+use Rattle.layout_neighbours.specs.Inner.Search.{Arrays, Holds, Leads, Points, Slots, foundIn}
+use Rattle.layout_neighbours.proofs.Among.{among-none}
 use Rattle.layout_neighbours.proofs.Holds.{slots-long, none-found, holds-point, seen-few}
 use Rattle.layout_neighbours.proofs.Sound.{Low, Visited, ends, passes-done, passes-on, one-more, enough}
 
@@ -39,20 +38,18 @@ slots-of h e = record { long = e; few = h .real; low = h .slots }
 
 -- ---- the loop
 
-pub record Left (l : List ℕ) (ts : List (List ℕ)) (nreal p : ℕ) (visited : List Bool) (nbrs : List ℕ) (c : Counts) : Type 0 where
+pub record Left (l : List ℕ) (ts : List (List ℕ)) (nreal p : ℕ) (a : Arrays) : Type 0 where
   pub state : Reach
-  pub holds : Holds nreal state visited nbrs c
-  pub begun : 1 ≤ c .seen
+  pub holds : Holds nreal state a
+  pub begun : 1 ≤ a .seen
   pub same : passes l ts 14 state .nbrs ≡ neighboursOf l ts p
 
 -- before the first point nothing is visited
-holds-nothing : (nreal : ℕ) → Holds nreal (record { visited = []; nbrs = [] }) (replicate 54 false) (replicate 40 0) (record { seen = 0; found = 0 })
+holds-nothing : (nreal : ℕ) → Holds nreal (record { visited = []; nbrs = [] }) (record { visited = replicate 54 false; nbrs = replicate 40 0; seen = 0; found = 0 })
 unfolding any
 holds-nothing nreal = record {
-  once = tt;
-  imaginary = λ p e. absurd (false≢true e);
-  apart = tt;
-  below = λ p e. absurd (false≢true e);
+  imaginary = among-none nreal 14;
+  below = among-none 0 40;
   long = length-replicate 54 false;
   marks = λ p h. getD-replicate 54 p false false h;
   slots = sym (filled-none 40 0);
@@ -61,7 +58,7 @@ holds-nothing nreal = record {
 }
 
 pub left-start : (l : List ℕ) (ts : List (List ℕ)) (nreal p : ℕ) → nreal ≤ p → p < nreal + 14 → nreal ≤ 40
-    → Left l ts nreal p (set (replicate 54 false) p true) (replicate 40 0) (record { seen = 1; found = 0 })
+    → Left l ts nreal p (record { visited = set (replicate 54 false) p true; nbrs = replicate 40 0; seen = 1; found = 0 })
 unfolding neighboursOf any
 left-start l ts nreal p h g k = record {
   state = record { visited = p ∷ []; nbrs = [] };
@@ -70,43 +67,44 @@ left-start l ts nreal p h g k = record {
   same = refl;
 }
 
-found-pair : {a b : List ℕ} {m n : ℕ} → a ≡ b → m ≡ n → _≡_ {A = Found} (record { nbrs = a; count = m }) (record { nbrs = b; count = n })
-found-pair e g = rw (e, g)
+-- the search stops: there is a neighbour, or as many points were seen before
+abbrev pub stops : Arrays → Arrays → Bool
+stops before after = not (eqb (after .found) 0) || eqb (after .seen) (before .seen)
 
-module _ {idx out : List ℕ} {tris nreal p : ℕ} (ps : Points idx tris nreal) (s : Slots out nreal) {visited visited' : List Bool} {nbrs nbrs' : List ℕ} {c d : Counts}
-    (h : Left (take nreal out) (triplesIn tris idx) nreal p visited nbrs c) (k : Holds nreal (pass (take nreal out) (triplesIn tris idx) (h .state)) visited' nbrs' d) where
-  test : ends (h .state) (pass (take nreal out) (triplesIn tris idx) (h .state)) ≡ not (eqb (d .found) 0) || eqb (d .seen) (c .seen)
-  test =
-      ap (λ (b : Bool). not b || eqb (length (pass (take nreal out) (triplesIn tris idx) (h .state) .visited)) (length (h .state .visited))) (none-found k)
-      ∙ ap (λ (n : ℕ). not (eqb (d .found) 0) || eqb n (length (h .state .visited))) (sym (k .seen))
-      ∙ ap (λ (n : ℕ). not (eqb (d .found) 0) || eqb (d .seen) n) (sym (h .holds .seen))
+module _ {idx out : List ℕ} {tris nreal : ℕ} (ps : Points idx tris nreal) (s : Slots out nreal) where
+  abbrev l : List ℕ
+  l = take nreal out
 
-  pub left-done : not (eqb (d .found) 0) || eqb (d .seen) (c .seen) ≡ true → record { nbrs = nbrs'; count = d .found } ≡ foundIn (neighboursOf (take nreal out) (triplesIn tris idx) p)
-  unfolding foundIn
-  left-done e =
-      let r = pass (take nreal out) (triplesIn tris idx) (h .state) in
-      let n : r .nbrs ≡ neighboursOf (take nreal out) (triplesIn tris idx) p =
-      sym (ap (λ (x : Reach). x .nbrs) (passes-done (take nreal out) (triplesIn tris idx) 13 (h .state) (test ∙ e))) ∙ h .same in
-      found-pair (k .slots) (k .found) ∙ ap foundIn n
+  abbrev ts : List (List ℕ)
+  ts = triplesIn tris idx
 
-  module _ (e : not (eqb (d .found) 0) || eqb (d .seen) (c .seen) ≡ false) where
-    low : Low (length (take nreal out)) (triplesIn tris idx)
-    low = rw (slots-long s) (low-triples ps)
+  -- a pass leads from arrays a to arrays b
+  module _ {p : ℕ} {a b : Arrays} (h : Left l ts nreal p a) (leads : Leads nreal (pass l ts) a b) where
+    k : Holds nreal (pass l ts (h .state)) b
+    k = leads (h .state) (h .holds)
 
-    visited-now : {r : Reach} {v : List Bool} {n : List ℕ} {x : Counts} → Holds nreal r v n x → Visited (length (take nreal out)) (length (r .visited)) r
-    visited-now m = record { once = m .once; imaginary = rw (slots-long s) (m .imaginary); more = omega arith }
+    test : ends (h .state) (pass l ts (h .state)) ≡ stops a b
+    test = rw (none-found k, ← k .seen, ← h .holds .seen) refl
 
-    more : length (h .state .visited) < length (pass (take nreal out) (triplesIn tris idx) (h .state) .visited)
-    more = one-more (take nreal out) (triplesIn tris idx) low (h .state) (visited-now (h .holds)) (test ∙ e)
+    pub left-done : stops a b ≡ true → record { nbrs = b .nbrs; count = b .found } ≡ foundIn (neighboursOf l ts p)
+    unfolding foundIn
+    left-done e =
+        let n : pass l ts (h .state) .nbrs ≡ neighboursOf l ts p = sym (ap (λ (x : Reach). x .nbrs) (passes-done l ts 13 (h .state) (test ∙ e))) ∙ h .same in
+        rw (k .slots, k .found, n) refl
 
-    pub left-less : (c .seen < d .seen) × (d .seen ≤ 14)
-    left-less = (omega (arith, more, k .seen, h .holds .seen), seen-few k)
+    module _ (e : stops a b ≡ false) where
+      low : Low (length l) ts
+      low = rw (slots-long s) (low-triples ps)
 
-    pub left-on : Left (take nreal out) (triplesIn tris idx) nreal p visited' nbrs' d
-    left-on =
-        let r = pass (take nreal out) (triplesIn tris idx) (h .state) in
-        let b = h .begun in
-        let f : passes (take nreal out) (triplesIn tris idx) 14 r ≡ passes (take nreal out) (triplesIn tris idx) 14 (h .state) =
-        enough (take nreal out) (triplesIn tris idx) low 14 13 r (visited-now k) (omega (arith, left-less, k .seen)) (omega (arith, left-less, k .seen))
-        ∙ sym (passes-on (take nreal out) (triplesIn tris idx) 13 (h .state) (test ∙ e)) in
-        record { state = r; holds = k; begun = omega (arith, left-less); same = ap (λ (x : Reach). x .nbrs) f ∙ h .same }
+      visited-now : {r : Reach} {c : Arrays} → Holds nreal r c → Visited (length l) (length (r .visited)) r
+      visited-now m = record { imaginary = rw (slots-long s) (m .imaginary); more = omega arith }
+
+      pub left-less : (a .seen < b .seen) × (b .seen ≤ 14)
+      left-less = (omega (arith, one-more l ts low (h .state) (visited-now (h .holds)) (test ∙ e), k .seen, h .holds .seen), seen-few k)
+
+      pub left-on : Left l ts nreal p b
+      left-on =
+          let g = h .begun in
+          let f : passes l ts 14 (pass l ts (h .state)) ≡ passes l ts 14 (h .state) =
+          enough l ts low 14 13 (pass l ts (h .state)) (visited-now k) (omega (arith, left-less, k .seen)) (omega (arith, left-less, k .seen)) ∙ sym (passes-on l ts 13 (h .state) (test ∙ e)) in
+          record { state = pass l ts (h .state); holds = k; begun = omega (arith, left-less); same = ap (λ (x : Reach). x .nbrs) f ∙ h .same }

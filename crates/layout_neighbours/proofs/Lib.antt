@@ -1,4 +1,4 @@
-pub mod Within
+pub mod Among
 pub mod Reaches
 pub mod Holds
 pub mod Triplet

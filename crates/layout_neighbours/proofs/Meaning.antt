@@ -2,7 +2,7 @@
 use Prim.Native.Nat.{ℕ, zero, suc, _+_, _≤_, _<_}
 use mathlib.Core.Path.{_≡_, refl, sym, ap, subst, _∙_}
 use mathlib.Core.Bool.{Bool, true, false, not, _&&_, _||_, false≢true}
-use mathlib.Core.List.{List, [], _∷_, _++_, foldl, List·Memᴰ·not-nil}
+use mathlib.Core.List.{List, [], _∷_, _++_, foldl}
 use mathlib.Core.Logic.{_⊎_, inl, inr, ⊎-elim}
 use native.Mathlib.Omega.{arith}
 use borrow.Author.Tests.{eqb-true, eq-eqb, ltb-true, ltb-false}
@@ -11,8 +11,9 @@ use lib.ListN.{length, getD, length-append}
 use Rattle.lists.specs.Lists.{any, every, member, isEmpty, Each}
 use Rattle.layout_neighbours.specs.Neighbours.{Reach, reach, across, pass, passes, neighboursOf}
 use Rattle.layout_neighbours.specs.Meaning.{share, Linked, here, next, StandsIn, Neighbourhood, Placed, Complete}
+use Rattle.layout_neighbours.proofs.Among.{among-none, among-snoc}
 use Rattle.layout_neighbours.proofs.Reaches.{reach-found, reach-visits}
-use Rattle.lists.proofs.Tests.{or-left, or-right, both, and-both, either, cond-yes}
+use Rattle.lists.proofs.Tests.{both, and-both, either, or-left, or-right, cond-yes}
 use Rattle.lists.proofs.Once.{member-snoc, member-here}
 use Rattle.lists.proofs.Each.{each-member, each-every, each-imply, foldl-keeps, foldl-always}
 use Rattle.layout_neighbours.proofs.Sound.{reach-keeps, across-keeps, across-always, pass-keeps, pass-always, passes-keeps, Visited, visited-few, Low, after, ends, passes-done, passes-on, one-more, enough}
@@ -250,12 +251,7 @@ module _ (l : List ℕ) (ts : List (List ℕ)) where
 
     begin : Visited (length l) 1 (record { visited = p ∷ []; nbrs = [] })
     unfolding any
-    begin = record {
-      once = (List·Memᴰ·not-nil, tt);
-      imaginary = λ q m.
-          ⊎-elim (λ o. let e : p ≡ q = eqb-true p q o in let a = h .imaginary in let b = h .few in (omega arith, omega arith)) (λ o. absurd (false≢true o)) (either (eqb p q) false m);
-      more = omega arith;
-    }
+    begin = record { imaginary = among-snoc (length l) 14 [] p (among-none (length l) 14) refl (h .imaginary) (h .few); more = omega arith }
 
     last-pass : (m : ℕ) (r : Reach) → Visited (length l) (length (r .visited)) r → 15 ≤ m + length (r .visited) → member p (r .visited) ≡ true
         → (x : Reach) × (member p (x .visited) ≡ true) × (ends x (pass l ts x) ≡ true) × (passes l ts m r ≡ pass l ts x)

@@ -7,13 +7,12 @@ use native.Mathlib.Omega.{arith}
 use borrow.Author.Tests.{ltb-true, ltb-false, eqb-false}
 use lib.Dec.{eqb, ltb}
 use lib.ListN.{length, getD, length-append}
-use Rattle.lists.specs.Lists.{Each, Once, any, member, isEmpty}
+use Rattle.lists.specs.Lists.{Each, any, member, isEmpty}
 use Rattle.lists.proofs.Tests.{neither}
-use Rattle.lists.proofs.Once.{not-member, once-snoc, pigeonhole}
 use Rattle.lists.proofs.Each.{foldl-keeps, foldl-always}
 use Rattle.layout_neighbours.specs.Neighbours.{Reach, reach, across, pass, passes}
-use Rattle.layout_neighbours.specs.Inner.Search.{Within}
-use Rattle.layout_neighbours.proofs.Within.{within-snoc}
+use Rattle.layout_neighbours.specs.Inner.Search.{Among}
+use Rattle.layout_neighbours.proofs.Among.{among-snoc, among-few}
 use Rattle.layout_neighbours.proofs.Reaches.{withSlot, withPoint}
 
 -- ---- what steps keep
@@ -89,12 +88,11 @@ module _ (l : List ℕ) (ts : List (List ℕ)) (n : ℕ) (r : Reach) where
 
 -- imaginary ones among nreal .. nreal + 13, each once, m of them or more
 pub record Visited (nreal m : ℕ) (r : Reach) : Type 0 where
-  pub once : Once (r .visited)
-  pub imaginary : Within nreal 14 (r .visited)
+  pub imaginary : Among nreal 14 (r .visited)
   pub more : m ≤ length (r .visited)
 
 pub visited-few : {nreal m : ℕ} {r : Reach} → Visited nreal m r → length (r .visited) ≤ 14
-visited-few {nreal} {m} {r} v = pigeonhole 14 nreal (r .visited) (v .once) (v .imaginary)
+visited-few {nreal} {m} {r} v = among-few 14 nreal (r .visited) (v .imaginary)
 
 -- triplets of points below nreal + 14
 abbrev pub Low : ℕ → List (List ℕ) → Type 0
@@ -104,12 +102,8 @@ module _ (l : List ℕ) (ts : List (List ℕ)) (low : Low (length l) ts) where
   reach-visited : (m : ℕ) (r : Reach) (p : ℕ) → p < length l + 14 → Visited (length l) m r → Visited (length l) m (reach l r p)
   reach-visited m r p h v =
       reach-keeps (Visited (length l) m) l r p v
-      (λ g e. record { once = v .once; imaginary = v .imaginary; more = v .more })
-      (λ g e f. record {
-        once = once-snoc (r .visited) p (v .once) (not-member p (r .visited) e);
-        imaginary = within-snoc (length l) 14 (r .visited) p (v .imaginary) g h;
-        more = omega (arith, v .more, length-append (r .visited) (p ∷ []));
-      })
+      (λ g e. record { imaginary = v .imaginary; more = v .more })
+      (λ g e f. record { imaginary = among-snoc (length l) 14 (r .visited) p (v .imaginary) e g h; more = omega (arith, v .more, length-append (r .visited) (p ∷ [])) })
 
   pub pass-visited : (m : ℕ) (r : Reach) → Visited (length l) m r → Visited (length l) m (pass l ts r)
   pass-visited m r v =
@@ -122,7 +116,7 @@ module _ (l : List ℕ) (ts : List (List ℕ)) (low : Low (length l) ts) where
     pub after : Visited (length l) (length (pass l ts r .visited)) (pass l ts r)
     after =
         let w = pass-visited (length (r .visited)) r v in
-        record { once = w .once; imaginary = w .imaginary; more = omega arith }
+        record { imaginary = w .imaginary; more = omega arith }
 
     -- a pass after which another follows visited a point
     pub one-more : ends r (pass l ts r) ≡ false → length (r .visited) < length (pass l ts r .visited)

@@ -7,7 +7,7 @@ ghost use mathlib.Core.List.{_++_};
 ghost use Rattle.lists.specs.Lists.{member, part};
 ghost use Rattle.layout_neighbours.specs.Neighbours.{reach, across, pass, neighboursOf};
 ghost use Rattle.layout_neighbours.specs.Inner.Flat.{triplesIn, neighboursIn, Numbered};
-ghost use Rattle.layout_neighbours.specs.Inner.Search.{Held, Leads, Points, Slots, foundIn};
+ghost use Rattle.layout_neighbours.specs.Inner.Search.{arraysOf, Held, Leads, Points, Slots, foundIn};
 
 // How many neighbours each of the fourteen imaginary points has, and their slots: neighbour j of the k-th at k * 40 + j.
 pub struct ImagNbrs {
@@ -53,8 +53,8 @@ fn reach(
 ) -> Counts
     requires { ⌜ Slots (now out) nreal ⌝ }
     requires { ⌜ p < nreal + 14 ⌝ }
-    requires { ⌜ Held nreal (now visited) (now nbrs) c ⌝ }
-    ensures { λ d. ⌜ Leads nreal (λ r. reach (take nreal (now (out .entry))) r p) (now (visited .entry)) (now (nbrs .entry)) c (now (visited .exit)) (now (nbrs .exit)) d ⌝ }
+    requires { ⌜ Held nreal (arraysOf (now visited) (now nbrs) c) ⌝ }
+    ensures { λ d. ⌜ Leads nreal (λ r. reach (take nreal (now (out .entry))) r p) (arraysOf (now (visited .entry)) (now (nbrs .entry)) c) (arraysOf (now (visited .exit)) (now (nbrs .exit)) d) ⌝ }
 {
     let n = c.found;
     if p < nreal {
@@ -93,8 +93,8 @@ fn across(
 ) -> Counts
     requires { ⌜ Points (now idx) (t + 1) nreal ⌝ }
     requires { ⌜ Slots (now out) nreal ⌝ }
-    requires { ⌜ Held nreal (now visited) (now nbrs) c ⌝ }
-    ensures { λ d. ⌜ Leads nreal (λ r. across (take nreal (now (out .entry))) r (part 3 (now (idx .entry)) t)) (now (visited .entry)) (now (nbrs .entry)) c (now (visited .exit)) (now (nbrs .exit)) d ⌝ }
+    requires { ⌜ Held nreal (arraysOf (now visited) (now nbrs) c) ⌝ }
+    ensures { λ d. ⌜ Leads nreal (λ r. across (take nreal (now (out .entry))) r (part 3 (now (idx .entry)) t)) (arraysOf (now (visited .entry)) (now (nbrs .entry)) c) (arraysOf (now (visited .exit)) (now (nbrs .exit)) d) ⌝ }
 {
     let i = idx[t * 3] as usize;
     let j = idx[t * 3 + 1] as usize;
@@ -119,8 +119,8 @@ fn pass(
 ) -> Counts
     requires { ⌜ Points (now idx) tris nreal ⌝ }
     requires { ⌜ Slots (now out) nreal ⌝ }
-    requires { ⌜ Held nreal (now visited) (now nbrs) c ⌝ }
-    ensures { λ d. ⌜ Leads nreal (pass (take nreal (now (out .entry))) (triplesIn tris (now (idx .entry)))) (now (visited .entry)) (now (nbrs .entry)) c (now (visited .exit)) (now (nbrs .exit)) d ⌝ }
+    requires { ⌜ Held nreal (arraysOf (now visited) (now nbrs) c) ⌝ }
+    ensures { λ d. ⌜ Leads nreal (pass (take nreal (now (out .entry))) (triplesIn tris (now (idx .entry)))) (arraysOf (now (visited .entry)) (now (nbrs .entry)) c) (arraysOf (now (visited .exit)) (now (nbrs .exit)) d) ⌝ }
 {
     let mut d = c;
     let mut t = 0;

@@ -1,10 +1,22 @@
 -- The array of visited points tells whether the triplet holds one; then its three points follow each other, as in the definition's fold. Assumes nothing.
-use Prim.Native.Nat.{_+_, _*_}
-use Rattle.layout_neighbours.proofs.Triplet.{low, across-meets, across-misses}
+use Prim.Native.Nat.{_+_, _*_, _<_}
+use denote.Ref.{now}
+use Rattle.layout_neighbours.proofs.Triplet.{first, second, third, low, across-meets, across-misses}
 use native.Mathlib.Omega.{arith}
 use borrow.Author.Needs.{needs}
 use Rattle.layout_neighbours.proofs.across.Statement.{statement}
 use Rattle.layout_neighbours.proofs.across.Tie as tie
+
+-- the triplet's points have a mark
+module _ (s : tie.Start) where
+  first-low : first (now (s .args .idx)) (s .args .t) < 54
+  first-low = low (s .args .t) (s .pre .0) (s .pre .1 .0) (s .args .t * 3) (omega arith)
+
+  second-low : second (now (s .args .idx)) (s .args .t) < 54
+  second-low = low (s .args .t) (s .pre .0) (s .pre .1 .0) (s .args .t * 3 + 1) (omega arith)
+
+  third-low : third (now (s .args .idx)) (s .args .t) < 54
+  third-low = low (s .args .t) (s .pre .0) (s .pre .1 .0) (s .args .t * 3 + 2) (omega arith)
 
 mul-i : tie.Need-mul-i
 mul-i c = search needs
@@ -13,9 +25,7 @@ shared-slice-read-i : tie.Need-shared-slice-read-i
 shared-slice-read-i c = search needs
 
 cast-i : tie.Need-cast-i
-cast-i c =
-    let g = c .before .before .before in
-    omega (arith, low (g .args .t) (g .pre .0) (g .pre .1 .0) (g .args .t * 3) (omega arith))
+cast-i c = omega (arith, first-low (c .before .before .before))
 
 mul-j : tie.Need-mul-j
 mul-j c = search needs
@@ -27,9 +37,7 @@ shared-slice-read-j : tie.Need-shared-slice-read-j
 shared-slice-read-j c = search needs
 
 cast-j : tie.Need-cast-j
-cast-j c =
-    let g = c .before .before .before .before in
-    omega (arith, low (g .args .t) (g .pre .0) (g .pre .1 .0) (g .args .t * 3 + 1) (omega arith))
+cast-j c = omega (arith, second-low (c .before .before .before .before))
 
 mul-k : tie.Need-mul-k
 mul-k c = search needs
@@ -41,24 +49,16 @@ shared-slice-read-k : tie.Need-shared-slice-read-k
 shared-slice-read-k c = search needs
 
 cast-k : tie.Need-cast-k
-cast-k c =
-    let g = c .before .before .before .before .before in
-    omega (arith, low (g .args .t) (g .pre .0) (g .pre .1 .0) (g .args .t * 3 + 2) (omega arith))
+cast-k c = omega (arith, third-low (c .before .before .before .before .before))
 
 element-copy-out-if1 : tie.Need-element-copy-out-if1
-element-copy-out-if1 c =
-    let g = c .before .before .before .before .before in
-    low (g .args .t) (g .pre .0) (g .pre .1 .0) (g .args .t * 3) (omega arith)
+element-copy-out-if1 c = first-low (c .before .before .before .before .before)
 
 element-copy-out-if1-2 : tie.Need-element-copy-out-if1-2
-element-copy-out-if1-2 c =
-    let g = c .before .before .before .before .before .before in
-    low (g .args .t) (g .pre .0) (g .pre .1 .0) (g .args .t * 3 + 1) (omega arith)
+element-copy-out-if1-2 c = second-low (c .before .before .before .before .before .before)
 
 element-copy-out-if1-3 : tie.Need-element-copy-out-if1-3
-element-copy-out-if1-3 c =
-    let g = c .before .before .before .before .before .before .before in
-    low (g .args .t) (g .pre .0) (g .pre .1 .0) (g .args .t * 3 + 2) (omega arith)
+element-copy-out-if1-3 c = third-low (c .before .before .before .before .before .before .before)
 
 reach-requires : tie.Need-reach-requires
 reach-requires c κs =

@@ -2,13 +2,14 @@
 use Prim.Native.Nat.{_-_}
 use lib.ListN.{take}
 use Rattle.layout_neighbours.specs.Inner.Flat.{triplesIn}
+use Rattle.layout_neighbours.specs.Inner.Search.{arraysOf}
 use Rattle.layout_neighbours.proofs.Left.{Left, left-start, left-done, left-less, left-on}
 use native.Mathlib.Omega.{arith}
 use Rattle.layout_neighbours.proofs.neighbours_of.Statement.{statement}
 use Rattle.layout_neighbours.proofs.neighbours_of.Tie as tie
 
 abbrev Inv-loop : tie.InvT-loop
-Inv-loop idx tris out nreal p visited₀ nbrs₀ c₀ visited nbrs c = Left (take nreal out) (triplesIn tris idx) nreal p visited nbrs c
+Inv-loop idx tris out nreal p visited₀ nbrs₀ c₀ visited nbrs c = Left (take nreal out) (triplesIn tris idx) nreal p (arraysOf visited nbrs c)
 
 abbrev μ-loop : tie.MeasureT-loop
 μ-loop idx tris out nreal p visited₀ nbrs₀ c₀ visited nbrs c = 14 - c .seen
@@ -30,19 +31,19 @@ returns : tie.Need-returns Inv-loop μ-loop
 returns c =
     let g = c .before .before .before .before .before .before .before .before .before .before in
     let b = c .before .before .before .before .before .before .before in
-    left-done (g .pre .0) (g .pre .1 .0) (b .loop .inv) (c .before .before .before .before .pass .ensures _ (b .loop .inv .holds)) (c .if1 .taken)
+    left-done (g .pre .0) (g .pre .1 .0) (b .loop .inv) (c .before .before .before .before .pass .ensures) (c .if1 .taken)
 
 loop-less : tie.Need-loop-less Inv-loop μ-loop
 loop-less c =
     let g = c .before .before .before .before .before .before .before .before .before .before in
     let b = c .before .before .before .before .before .before .before in
-    omega (arith, left-less (g .pre .0) (g .pre .1 .0) (b .loop .inv) (c .before .before .before .before .pass .ensures _ (b .loop .inv .holds)) (c .if1 .left))
+    omega (arith, left-less (g .pre .0) (g .pre .1 .0) (b .loop .inv) (c .before .before .before .before .pass .ensures) (c .if1 .left))
 
 loop-again : tie.Need-loop-again Inv-loop μ-loop
 loop-again c =
     let g = c .before .before .before .before .before .before .before .before .before .before in
     let b = c .before .before .before .before .before .before .before in
-    left-on (g .pre .0) (g .pre .1 .0) (b .loop .inv) (c .before .before .before .before .pass .ensures _ (b .loop .inv .holds)) (c .if1 .left)
+    left-on (g .pre .0) (g .pre .1 .0) (b .loop .inv) (c .before .before .before .before .pass .ensures) (c .if1 .left)
 
 pub neighbours-of-spec : {M : Type 1} → statement M
 neighbours-of-spec =

@@ -4,14 +4,14 @@ use mathlib.Core.Path.{_≡_}
 use lib.ListN.{take}
 use Rattle.layout_neighbours.specs.Neighbours.{pass}
 use Rattle.layout_neighbours.specs.Inner.Flat.{triplesIn}
-use Rattle.layout_neighbours.specs.Inner.Search.{Leads}
+use Rattle.layout_neighbours.specs.Inner.Search.{arraysOf, Leads}
 use Rattle.layout_neighbours.proofs.Passes.{pass-none, pass-more, points-less}
 use native.Mathlib.Omega.{arith}
 use Rattle.layout_neighbours.proofs.pass.Statement.{statement}
 use Rattle.layout_neighbours.proofs.pass.Tie as tie
 
 abbrev Inv-loop : tie.InvT-loop
-Inv-loop idx tris out nreal visited₀ nbrs₀ d₀ t₀ visited nbrs d t = (t ≤ tris) × Leads nreal (pass (take nreal out) (triplesIn t idx)) visited₀ nbrs₀ d₀ visited nbrs d
+Inv-loop idx tris out nreal visited₀ nbrs₀ d₀ t₀ visited nbrs d t = (t ≤ tris) × Leads nreal (pass (take nreal out) (triplesIn t idx)) (arraysOf visited₀ nbrs₀ d₀) (arraysOf visited nbrs d)
 
 abbrev μ-loop : tie.MeasureT-loop
 μ-loop idx tris out nreal visited₀ nbrs₀ d₀ t₀ visited nbrs d t = tris - t

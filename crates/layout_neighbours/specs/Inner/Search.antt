@@ -11,29 +11,37 @@ use Rattle.layout_neighbours.specs.declared.Found.{Found}
 
 -- Origin of the bounds: 40 slots and speakers (document 01, refusal 2), 14 imaginary points (vbap.rs line 60), 54 points in all; 80 triplets (refusal 4), whose numbers are 240.
 
--- every element is at least a and below a + n
-abbrev pub Within : ℕ → ℕ → List ℕ → Type 0
-Within a n l = (p : ℕ) → member p l ≡ true → (a ≤ p) × (p < a + n)
+-- no element twice, and each is one of the n numbers from a on
+abbrev pub Among : ℕ → ℕ → List ℕ → Type 0
+Among a n l = Once l × ((p : ℕ) → member p l ≡ true → (a ≤ p) × (p < a + n))
 
--- r is a state of the search, and the arrays and counts hold it
-pub record Holds (nreal : ℕ) (r : Reach) (visited : List Bool) (nbrs : List ℕ) (c : Counts) : Type 0 where
-  pub once : Once (r .visited)
-  pub imaginary : Within nreal 14 (r .visited)
-  pub apart : Once (r .nbrs)
-  pub below : Within 0 40 (r .nbrs)
-  pub long : length visited ≡ 54
-  pub marks : (p : ℕ) → p < 54 → getD visited p false ≡ member p (r .visited)
-  pub slots : nbrs ≡ filled 40 0 (r .nbrs)
-  pub seen : c .seen ≡ length (r .visited)
-  pub found : c .found ≡ length (r .nbrs)
+-- what the search's arrays and counts hold at one time: a mark for each point, the slots, and how many of each
+pub record Arrays : Type 0 where
+  pub visited : List Bool
+  pub nbrs : List ℕ
+  pub seen : ℕ
+  pub found : ℕ
+
+abbrev pub arraysOf : List Bool → List ℕ → Counts → Arrays
+arraysOf visited nbrs c = record { visited = visited; nbrs = nbrs; seen = c .seen; found = c .found }
+
+-- the arrays hold the state r of the search, whose points are imaginary and whose slots are below 40
+pub record Holds (nreal : ℕ) (r : Reach) (a : Arrays) : Type 0 where
+  pub imaginary : Among nreal 14 (r .visited)
+  pub below : Among 0 40 (r .nbrs)
+  pub long : length (a .visited) ≡ 54
+  pub marks : (p : ℕ) → p < 54 → getD (a .visited) p false ≡ member p (r .visited)
+  pub slots : a .nbrs ≡ filled 40 0 (r .nbrs)
+  pub seen : a .seen ≡ length (r .visited)
+  pub found : a .found ≡ length (r .nbrs)
 
 -- some state is held
-abbrev pub Held : ℕ → List Bool → List ℕ → Counts → Type 0
-Held nreal visited nbrs c = (r : Reach) × Holds nreal r visited nbrs c
+abbrev pub Held : ℕ → Arrays → Type 0
+Held nreal a = (r : Reach) × Holds nreal r a
 
--- whatever state was held, f of it is held now
-abbrev pub Leads : ℕ → (Reach → Reach) → List Bool → List ℕ → Counts → List Bool → List ℕ → Counts → Type 0
-Leads nreal f visited nbrs c visited' nbrs' c' = (r : Reach) → Holds nreal r visited nbrs c → Holds nreal (f r) visited' nbrs' c'
+-- whatever state was held before, f of it is held after
+abbrev pub Leads : ℕ → (Reach → Reach) → Arrays → Arrays → Type 0
+Leads nreal f before after = (r : Reach) → Holds nreal r before → Holds nreal (f r) after
 
 -- at most 40 real points, with slots below 40
 pub record Slots (out : List ℕ) (nreal : ℕ) : Type 0 where
