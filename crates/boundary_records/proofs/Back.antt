@@ -31,7 +31,7 @@ use Rattle.layout_record.specs.Meaning.{HullFits, ShapeFits}
 use Rattle.layout_new.specs.declared.NewPanner.{NewPanner}
 use Rattle.layout_new.specs.Layout.{layoutOf, newRefusal, pannerOf, newOf}
 use Rattle.layout_new.proofs.Answers.{accepted-fits}
-use Rattle.mix_block.specs.Inner.Turns.{mostSources}
+use Rattle.mix_block.specs.Limits.{mostSources}
 use Rattle.boundary_records.specs.Places.{mostOutputs, mostTriplets, mostImaginary, headPlaces, pairBytePlaces, slotsAt, outAt, idxAt, idxPlaces, countsOfNbrsAt, nbrsAt, nbrPlaces, recordBytePlaces, pairFloatPlaces, dirPlaces, invAt, invPlaces, recordFloatPlaces, countsAt, startPlaces, standingAt, standingPlaces}
 use Rattle.boundary_records.specs.Records.{kindNumber, headOf, lawNumbers, lawNumber, numbersOf, bytesOf, pairNumbers, pairBytes, kindFrom, lawFrom, pairFrom, known, section, recordBytes, recordFloats, recordFrom}
 use Rattle.boundary_records.specs.Sessions.{ownBytes, ownFloats, sessionBytes, sessionFloats, sessionFrom, bytesLeft, floatsLeft}

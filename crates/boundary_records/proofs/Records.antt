@@ -10,7 +10,7 @@ use Rattle.layout_planar.specs.declared.PlanarPair.{PlanarPair}
 use Rattle.layout_record.specs.declared.Kind.{Kind}
 use Rattle.layout_record.specs.declared.VbapPanner.{VbapPanner}
 use Rattle.session_calls.specs.declared.Session.{Session}
-use Rattle.mix_block.specs.Inner.Turns.{mostSources}
+use Rattle.mix_block.specs.Limits.{mostSources}
 use Rattle.boundary_records.specs.Places.{mostOutputs, mostImaginary, headPlaces, pairBytePlaces, slotsAt, outAt, idxAt, idxPlaces, countsOfNbrsAt, nbrsAt, nbrPlaces, recordBytePlaces, pairFloatPlaces, dirPlaces, invAt, invPlaces, recordFloatPlaces, countsAt, startPlaces, standingAt, standingPlaces}
 use Rattle.boundary_records.specs.Records.{known, kindFrom, pairFrom, noRecord, section, recordFrom}
 use Rattle.boundary_records.specs.Sessions.{sessionFrom}

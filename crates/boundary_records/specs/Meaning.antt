@@ -13,7 +13,7 @@ use Rattle.layout_new.specs.Layout.{newOf}
 use Rattle.session_calls.specs.declared.Session.{Session}
 use Rattle.session_calls.specs.declared.Answer.{Answer}
 use Rattle.session_calls.specs.Session.{malformedSession}
-use Rattle.mix_block.specs.Inner.Turns.{mostSources}
+use Rattle.mix_block.specs.Limits.{mostSources}
 use Rattle.boundary_records.specs.Places.{mostOutputs, mostImaginary, headPlaces, pairBytePlaces, idxPlaces, nbrPlaces, dirPlaces, invPlaces, startPlaces, standingPlaces, sessionBytePlaces, sessionFloatPlaces}
 use Rattle.boundary_records.specs.Records.{section, known, recordBytes, recordFloats, recordFrom}
 use Rattle.boundary_records.specs.Sessions.{sessionBytes, sessionFloats, sessionFrom, bytesLeft, floatsLeft}

@@ -1,6 +1,6 @@
 -- The places of a record and of a session in two lent arrays, one of bytes and one of floats: docs/EMBEDDING.md. Each part begins where the one before ends. Assumes nothing.
 use Prim.Native.Nat.{ℕ, _+_, _*_}
-use Rattle.mix_block.specs.Inner.Turns.{mostSources, rowPlaces}
+use Rattle.mix_block.specs.Limits.{mostSources, rowPlaces}
 use Rattle.session_history.specs.History.{depth}
 
 -- ---- how many there may be

@@ -9,7 +9,7 @@ use Rattle.session_history.specs.Calls.{place, takeBack}
 use Rattle.session_calls.specs.declared.Session.{Session}
 use Rattle.session_calls.specs.declared.Answer.{Answer}
 use Rattle.session_calls.specs.Answers.{answerOf}
-use Rattle.mix_block.specs.Inner.Turns.{mostSources}
+use Rattle.mix_block.specs.Limits.{mostSources}
 use Rattle.boundary_records.specs.Places.{recordBytePlaces, recordFloatPlaces, countsAt, startPlaces, standingAt, standingPlaces}
 use Rattle.boundary_records.specs.Records.{recordBytes, recordFloats, section, recordFrom}
 

@@ -7,7 +7,7 @@ ghost use mathlib.Core.Path.{_≡_};
 ghost use mathlib.Core.List.{[], _∷_, _++_};
 ghost use lib.ListN.{length, take};
 ghost use Rattle.boundary_records.specs.Inner.Pasted.{pasted};
-ghost use Rattle.mix_block.specs.Inner.Turns.{mostSources};
+ghost use Rattle.mix_block.specs.Limits.{mostSources};
 ghost use Rattle.boundary_records.specs.Places.{recordBytePlaces, recordFloatPlaces, countsAt, startPlaces, standingAt, standingPlaces, sessionBytePlaces, sessionFloatPlaces};
 ghost use Rattle.boundary_records.specs.Sessions.{sessionBytes, sessionFloats, ownBytes, ownFloats, sessionFrom, bytesLeft, floatsLeft};
 use crate::copies::copy_bytes;

@@ -11,7 +11,7 @@ use lib.Ieee.{Float, binary64, sub, lt, le}
 use Rattle.lists.proofs.Collect.{foldl-snoc}
 use Rattle.lists.proofs.Tests.{cond-yes, cond-no}
 use Rattle.vector.specs.Vector.{Vector, Points}
-use Rattle.layout_closing.specs.Closing.{almost, greatest, passedOver, withPole, leastLead, wins, better, candidates}
+use Rattle.layout_closing.specs.Closing.{almost, nearestProduct, passedOver, withPole, leastLead, wins, better, candidates}
 use Rattle.layout_closing.specs.Inner.Flat.{bestIn, foundIn}
 use Rattle.layout_closing.specs.declared.Best.{Best}
 
@@ -40,7 +40,7 @@ module _ (pts : Points) (c : Vector) where
   unfolding better
   better-takes b e = cond-yes _ _ e
 
-  module _ {g : Float} (n : g ≡ greatest pts c) where
+  module _ {g : Float} (n : g ≡ nearestProduct pts c) where
     passed : (t : Bool) → le almost g ≡ t → passedOver pts c ≡ t
     unfolding passedOver
     passed t e = ap (le almost) (sym n) ∙ e
@@ -56,7 +56,7 @@ module _ (pts : Points) (c : Vector) where
     unfolding wins bestIn loses
     wins-best none e = sym (ap (λ (x : Best). not (loses x)) e)
     wins-best (some v) e =
-        ap (λ (x : Float). lt x (sub binary64 (greatest pts v) leastLead)) (sym n) ∙ not-not (lt g (sub binary64 (greatest pts v) leastLead)) ∙ sym (ap (λ (x : Best). not (loses x)) e)
+        ap (λ (x : Float). lt x (sub binary64 (nearestProduct pts v) leastLead)) (sym n) ∙ not-not (lt g (sub binary64 (nearestProduct pts v) leastLead)) ∙ sym (ap (λ (x : Best). not (loses x)) e)
 
     module _ {best : Best} (b : Option Vector) (e : best ≡ bestIn pts b) (h : le almost g ≡ false) where
       fresh : not (passedOver pts c) && wins pts c b ≡ not (loses best)

@@ -11,9 +11,9 @@ use Rattle.vector.specs.Vector.{dotIn, dotOf, crossOf, determinantOf, lessOf, o
 use Rattle.layout_faces.specs.Faces.{others, height, rawNormal, planeThrough, allBelow, allAbove, outward}
 use Rattle.layout_fan.specs.Fan.{coplanar, inFan}
 use Rattle.layout_hull.specs.Triplets.{verdictBy, verdict, verdicts, kept, opens, tripletsOf, closed}
-use Rattle.layout_closing.specs.Closing.{greatest, passedOver, withPole, withPoles, closing, stages, finalPoints}
+use Rattle.layout_closing.specs.Closing.{nearestProduct, passedOver, withPole, withPoles, closing, stages, finalPoints}
 use Rattle.layout_closing.specs.Examples.{AxesClose}
 
 pub axes-close : AxesClose
-unfolding ofBits ofFields odd units round size span climb neg sum add sub mul div lt le eq isNan trailingZeros flatMap from range between filter collect every any isEmpty last abs maxOf sqrtOf roundRoot wholeRoot rootBy grow dotIn dotOf crossOf determinantOf lessOf overOf negatedOf lengthOf others height rawNormal planeThrough allBelow allAbove outward coplanar inFan verdictBy verdict verdicts kept opens tripletsOf closed greatest passedOver withPole withPoles closing stages finalPoints
+unfolding ofBits ofFields odd units round size span climb neg sum add sub mul div lt le eq isNan trailingZeros flatMap from range between filter collect every any isEmpty last abs maxOf sqrtOf roundRoot wholeRoot rootBy grow dotIn dotOf crossOf determinantOf lessOf overOf negatedOf lengthOf others height rawNormal planeThrough allBelow allAbove outward coplanar inFan verdictBy verdict verdicts kept opens tripletsOf closed nearestProduct passedOver withPole withPoles closing stages finalPoints
 axes-close = record { closes = refl; none-made = refl }

@@ -25,7 +25,7 @@ use Rattle.float_bounds.proofs.Order.{max-fits}
 use Rattle.layout_hull.specs.Triplets.{Triplet, opens, verdicts, tripletsOf, closed}
 use Rattle.float_order.specs.Values.{+0, 1·0}
 use Rattle.float_order.specs.Order.{maxOf}
-use Rattle.layout_closing.specs.Closing.{−1, greatest, passedOver, leastLead, wins, better, candidates, candidateOf, withPole, withPoles, stages, finalPoints}
+use Rattle.layout_closing.specs.Closing.{−1, nearestProduct, passedOver, leastLead, wins, better, candidates, candidateOf, withPole, withPoles, stages, finalPoints}
 use Rattle.layout_closing.specs.Meaning.{Origins, unbeaten, Chosen, first-free, wins-over, Least, Candidate, Extends, Chain, Ends, closes, full, none-more, Stages, Behind, Imaginary}
 use Rattle.layout_closing.proofs.Candidates.{pole-there, pole-new, better-stays, better-takes}
 use Rattle.layout_closing.proofs.Lowered.{lowered}
@@ -60,9 +60,9 @@ over false false d k e = absurd (true≢false (sym e))
 
 -- ---- the order of the products
 
-pub greatest-fits : (pts : Points) (c : Vector) → T (fits binary64 (greatest pts c))
-unfolding greatest dotOf dotIn fits
-greatest-fits pts c = go pts (inf true) (inf-fits binary64 true)
+pub nearest-fits : (pts : Points) (c : Vector) → T (fits binary64 (nearestProduct pts c))
+unfolding nearestProduct dotOf dotIn fits
+nearest-fits pts c = go pts (inf true) (inf-fits binary64 true)
   where
     go : (l : Points) (g : Float) → T (fits binary64 g) → T (fits binary64 (foldl maxOf g (map (λ p. dotOf p c) l)))
     go [] g h = h
@@ -78,9 +78,9 @@ max-number x y h = ap (λ (t : Bool). isNan (cond t y (cond (isNan y) x (cond (e
     by false e false true = e
     by false e false false = h
 
-greatest-number : (pts : Points) (c : Vector) → isNan (greatest pts c) ≡ false
-unfolding greatest isNan
-greatest-number pts c = go pts (inf true) refl
+nearest-number : (pts : Points) (c : Vector) → isNan (nearestProduct pts c) ≡ false
+unfolding nearestProduct isNan
+nearest-number pts c = go pts (inf true) refl
   where
     go : (l : Points) (g : Float) → isNan g ≡ false → isNan (foldl maxOf g (map (λ p. dotOf p c) l)) ≡ false
     go [] g h = h
@@ -92,33 +92,33 @@ lead-val = record { has = (refl, refl) }
 
 module _ (pts : Points) where
   -- what is below something that d is not below is below d
-  lower : (c d : Vector) (s : Float) → lt (greatest pts d) s ≡ false → lt (greatest pts c) s ≡ true → lt (greatest pts c) (greatest pts d) ≡ true
-  lower c d s h k = by (lt (greatest pts c) (greatest pts d)) refl
+  lower : (c d : Vector) (s : Float) → lt (nearestProduct pts d) s ≡ false → lt (nearestProduct pts c) s ≡ true → lt (nearestProduct pts c) (nearestProduct pts d) ≡ true
+  lower c d s h k = by (lt (nearestProduct pts c) (nearestProduct pts d)) refl
     where
-      by : (b : Bool) → lt (greatest pts c) (greatest pts d) ≡ b → b ≡ true
+      by : (b : Bool) → lt (nearestProduct pts c) (nearestProduct pts d) ≡ b → b ≡ true
       by true e = refl
       by false e =
-          let z : isNan (greatest pts d) || lt (greatest pts d) s ≡ true = lt-over (greatest pts c) (greatest pts d) s e k in
-          let w : isNan (greatest pts d) || lt (greatest pts d) s ≡ false = rw (greatest-number pts d, h) refl in
+          let z : isNan (nearestProduct pts d) || lt (nearestProduct pts d) s ≡ true = lt-over (nearestProduct pts c) (nearestProduct pts d) s e k in
+          let w : isNan (nearestProduct pts d) || lt (nearestProduct pts d) s ≡ false = rw (nearest-number pts d, h) refl in
           sym w ∙ z
 
   wins-not-self : (c : Vector) → wins pts c (some c) ≡ false
   unfolding wins ofBits
-  wins-not-self c = lowered (greatest pts c) leastLead (greatest-fits pts c) lead-val (lit< tt)
+  wins-not-self c = lowered (nearestProduct pts c) leastLead (nearest-fits pts c) lead-val (lit< tt)
 
   -- what is above c does not win over it
-  above-loses : (c d : Vector) → lt (greatest pts c) (greatest pts d) ≡ true → wins pts d (some c) ≡ false
+  above-loses : (c d : Vector) → lt (nearestProduct pts c) (nearestProduct pts d) ≡ true → wins pts d (some c) ≡ false
   unfolding wins
   above-loses c d h = by (wins pts d (some c)) refl
     where
       by : (b : Bool) → wins pts d (some c) ≡ b → b ≡ false
       by false e = refl
-      by true e = let l : lt (greatest pts d) (greatest pts c) ≡ true = lower d c (sub binary64 (greatest pts c) leastLead) (wins-not-self c) e in sym l ∙ float-lt-asym (greatest pts c) (greatest pts d) h
+      by true e = let l : lt (nearestProduct pts d) (nearestProduct pts c) ≡ true = lower d c (sub binary64 (nearestProduct pts c) leastLead) (wins-not-self c) e in sym l ∙ float-lt-asym (nearestProduct pts c) (nearestProduct pts d) h
 
   -- c wins over b, which d does not win over
-  wins-lower : (b c d : Vector) → wins pts c (some b) ≡ true → wins pts d (some b) ≡ false → lt (greatest pts c) (greatest pts d) ≡ true
+  wins-lower : (b c d : Vector) → wins pts c (some b) ≡ true → wins pts d (some b) ≡ false → lt (nearestProduct pts c) (nearestProduct pts d) ≡ true
   unfolding wins
-  wins-lower b c d h k = lower c d (sub binary64 (greatest pts b) leastLead) k h
+  wins-lower b c d h k = lower c d (sub binary64 (nearestProduct pts b) leastLead) k h
 
   -- ---- the choice
 
@@ -225,14 +225,14 @@ module _ (pts : Points) where
     later = q;
     place = e;
     free = f;
-    below-earlier = every-more {f = passedOver pts} {g = λ d. passedOver pts d || lt (greatest pts c) (greatest pts d)} (λ d g. ap (λ (t : Bool). t || lt (greatest pts c) (greatest pts d)) g) p h;
+    below-earlier = every-more {f = passedOver pts} {g = λ d. passedOver pts d || lt (nearestProduct pts c) (nearestProduct pts d)} (λ d g. ap (λ (t : Bool). t || lt (nearestProduct pts c) (nearestProduct pts d)) g) p h;
     of-all = ap (λ (x : Points). unbeaten pts x c) e ∙ unbeaten-parts p q c (every-more {f = passedOver pts} {g = λ d. passedOver pts d || not (wins pts d (some c))} (λ d g. ap (λ (t : Bool). t || not (wins pts d (some c))) g) p h) u;
   }
   all-of {l} {c} (wins-over p q {b} e i f w u) =
       let m = all-of i in
-      let below : every (λ d. passedOver pts d || lt (greatest pts c) (greatest pts d)) p ≡ true =
-      every-more {f = λ d. passedOver pts d || not (wins pts d (some b))} {g = λ d. passedOver pts d || lt (greatest pts c) (greatest pts d)}
-      (λ d g. under (passedOver pts d) (wins pts d (some b)) (lt (greatest pts c) (greatest pts d)) (wins-lower b c d w) g) p (m .of-all) in
+      let below : every (λ d. passedOver pts d || lt (nearestProduct pts c) (nearestProduct pts d)) p ≡ true =
+      every-more {f = λ d. passedOver pts d || not (wins pts d (some b))} {g = λ d. passedOver pts d || lt (nearestProduct pts c) (nearestProduct pts d)}
+      (λ d g. under (passedOver pts d) (wins pts d (some b)) (lt (nearestProduct pts c) (nearestProduct pts d)) (wins-lower b c d w) g) p (m .of-all) in
       record {
         earlier = p;
         later = q;
@@ -241,8 +241,8 @@ module _ (pts : Points) where
         below-earlier = below;
         of-all = ap (λ (x : Points). unbeaten pts x c) e
             ∙ unbeaten-parts p q c
-            (every-more {f = λ d. passedOver pts d || lt (greatest pts c) (greatest pts d)} {g = λ d. passedOver pts d || not (wins pts d (some c))}
-            (λ d g. over (passedOver pts d) (lt (greatest pts c) (greatest pts d)) (wins pts d (some c)) (above-loses c d) g) p below)
+            (every-more {f = λ d. passedOver pts d || lt (nearestProduct pts c) (nearestProduct pts d)} {g = λ d. passedOver pts d || not (wins pts d (some c))}
+            (λ d g. over (passedOver pts d) (lt (nearestProduct pts c) (nearestProduct pts d)) (wins pts d (some c)) (above-loses c d) g) p below)
             u;
       }
 

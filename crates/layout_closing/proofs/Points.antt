@@ -17,18 +17,18 @@ use Rattle.float_order.specs.Values.{+0}
 use Rattle.float_order.specs.Order.{maxOf}
 use Rattle.vector.specs.Vector.{Vector, Points, dotOf, pointsIn}
 use Rattle.vector.proofs.Points.{points-snoc}
-use Rattle.layout_closing.specs.Closing.{greatest}
+use Rattle.layout_closing.specs.Closing.{nearestProduct}
 
 -- ---- the greatest product
 
 module _ (flat : List Float) (c : Vector) where
-  pub greatest-none : greatest (pointsIn 0 flat) c ≡ inf true
-  unfolding greatest pointsIn range from
-  greatest-none = refl
+  pub nearest-none : nearestProduct (pointsIn 0 flat) c ≡ inf true
+  unfolding nearestProduct pointsIn range from
+  nearest-none = refl
 
-  pub greatest-more : (i : ℕ) → greatest (pointsIn (i + 1) flat) c ≡ maxOf (greatest (pointsIn i flat) c) (dotOf (part 3 flat i) c)
-  unfolding greatest
-  greatest-more i =
+  pub nearest-more : (i : ℕ) → nearestProduct (pointsIn (i + 1) flat) c ≡ maxOf (nearestProduct (pointsIn i flat) c) (dotOf (part 3 flat i) c)
+  unfolding nearestProduct
+  nearest-more i =
       ap (λ (l : Points). foldl maxOf (inf true) (map (λ p. dotOf p c) l)) (points-snoc i flat)
       ∙ ap (foldl maxOf (inf true)) (map-snoc (λ p. dotOf p c) (pointsIn i flat) (part 3 flat i))
       ∙ foldl-snoc maxOf (inf true) (map (λ p. dotOf p c) (pointsIn i flat)) (dotOf (part 3 flat i) c)

@@ -19,12 +19,12 @@ use Rattle.layout_hull.specs.Triplets.{tripletsOf, closed}
 abbrev pub almost : Float
 almost = ofBits binary64 0x3fef_fffd_e721_0be9
 
--- the greatest dot product with the points. Origin of −∞, where there are none: vbap.rs line 384.
-unfoldable pub greatest : Points → Vector → Float
-greatest pts c = foldl maxOf (inf true) (map (λ p. dotOf p c) pts)
+-- the dot product with the nearest point, the greatest of all. Origin of −∞, where there are none: vbap.rs line 384.
+unfoldable pub nearestProduct : Points → Vector → Float
+nearestProduct pts c = foldl maxOf (inf true) (map (λ p. dotOf p c) pts)
 
 unfoldable pub passedOver : Points → Vector → Bool
-passedOver pts c = le almost (greatest pts c)
+passedOver pts c = le almost (nearestProduct pts c)
 
 -- h = 1 ÷ √3 in 64 bits, both rounded. Origin: vbap.rs line 64.
 abbrev pub h : Float
@@ -62,10 +62,10 @@ withPoles pts = foldl withPole pts poles
 abbrev pub leastLead : Float
 leastLead = ofBits binary64 0x3e11_2e0b_e826_d695
 
--- the candidate with the least greatest product; a later one wins only when its product is below the earlier's less 1e-9
+-- the candidate whose nearest point is farthest: with the least such product; a later one wins only when its product is below the earlier's less 1e-9
 unfoldable pub wins : Points → Vector → Option Vector → Bool
 wins pts c none = true
-wins pts c (some b) = lt (greatest pts c) (sub binary64 (greatest pts b) leastLead)
+wins pts c (some b) = lt (nearestProduct pts c) (sub binary64 (nearestProduct pts b) leastLead)
 
 unfoldable pub better : Points → Option Vector → Vector → Option Vector
 better pts best c = cond (not (passedOver pts c) && wins pts c best) (some c) best

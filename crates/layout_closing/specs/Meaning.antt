@@ -12,7 +12,7 @@ use Rattle.float_root.specs.Root.{sqrtOf}
 use Rattle.vector.specs.Limits.{maxImaginary}
 use Rattle.vector.specs.Vector.{Vector, Points}
 use Rattle.layout_hull.specs.Triplets.{tripletsOf, closed}
-use Rattle.layout_closing.specs.Closing.{almost, h, greatest, passedOver, candidates, wins, candidateOf, withPoles, stages, finalPoints}
+use Rattle.layout_closing.specs.Closing.{almost, h, nearestProduct, passedOver, candidates, wins, candidateOf, withPoles, stages, finalPoints}
 
 -- ---- the constants, as the source writes them
 
@@ -40,7 +40,7 @@ pub record Least (pts l : Points) (c : Vector) : Type 0 where
   pub later : Points
   pub place : l ≡ earlier ++ c ∷ later
   pub free : passedOver pts c ≡ false
-  pub below-earlier : every (λ d. passedOver pts d || lt (greatest pts c) (greatest pts d)) earlier ≡ true
+  pub below-earlier : every (λ d. passedOver pts d || lt (nearestProduct pts c) (nearestProduct pts d)) earlier ≡ true
   pub of-all : unbeaten pts l c ≡ true
 
 pub record Candidate (pts : Points) : Type 0 where

@@ -7,7 +7,7 @@ ghost use lib.ListN.{length};
 ghost use Rattle.lists.specs.Lists.{filled};
 ghost use Rattle.float_order.specs.Values.{+0};
 ghost use Rattle.vector.specs.Vector.{pointsIn};
-ghost use Rattle.layout_closing.specs.Closing.{greatest, passedOver, withPole, better, candidateOf};
+ghost use Rattle.layout_closing.specs.Closing.{nearestProduct, passedOver, withPole, better, candidateOf};
 ghost use Rattle.layout_closing.specs.Inner.Flat.{bestIn, foundIn, endedIn};
 use layout_hull::Hull;
 use vector::MAX_IMAGINARY;
@@ -54,9 +54,9 @@ const CANDIDATES: [[f64; 3]; 14] = [
 ];
 
 // The greatest dot product of c with the first n points.
-fn greatest(pts: &[f64; 162], n: usize, c: [f64; 3]) -> f64
+fn nearest_product(pts: &[f64; 162], n: usize, c: [f64; 3]) -> f64
     requires { ⌜ (n ≤ 54) × (length (now pts) ≡ 162) ⌝ }
-    ensures { λ r. ⌜ r ≡ greatest (pointsIn n (now (pts .entry))) c ⌝ }
+    ensures { λ r. ⌜ r ≡ nearestProduct (pointsIn n (now (pts .entry))) c ⌝ }
 {
     // −∞. Origin: vbap.rs line 384
     let mut g = -1.0 / 0.0;
@@ -74,7 +74,7 @@ fn passed_over(pts: &[f64; 162], n: usize, c: [f64; 3]) -> bool
     requires { ⌜ (n ≤ 54) × (length (now pts) ≡ 162) ⌝ }
     ensures { λ r. ⌜ r ≡ passedOver (pointsIn n (now (pts .entry))) c ⌝ }
 {
-    ALMOST <= greatest(pts, n, c)
+    ALMOST <= nearest_product(pts, n, c)
 }
 
 // The point c behind the first n.
@@ -104,7 +104,7 @@ fn better(pts: &[f64; 162], n: usize, best: Best, c: [f64; 3]) -> Best
     requires { ⌜ (n ≤ 54) × (length (now pts) ≡ 162) × (best ≡ bestIn (pointsIn n (now pts)) (foundIn best)) ⌝ }
     ensures { λ r. ⌜ r ≡ bestIn (pointsIn n (now (pts .entry))) (better (pointsIn n (now (pts .entry))) (foundIn best) c) ⌝ }
 {
-    let nearest = greatest(pts, n, c);
+    let nearest = nearest_product(pts, n, c);
     if ALMOST <= nearest {
         return best;
     }

@@ -10,7 +10,8 @@ use lib.ListN.{getD, take, drop}
 use lib.Ieee.{Float, nan}
 use Rattle.lists.specs.Lists.{part}
 use Rattle.mix_ramp.specs.Ramp.{rampAddOf}
-use Rattle.mix_block.specs.Inner.Turns.{rowPlaces, rampPart}
+use Rattle.mix_block.specs.Limits.{rowPlaces}
+use Rattle.mix_block.specs.Inner.Turns.{rampPart}
 
 -- the part of one of n lies within the whole
 pub part-end : (i n len : ℕ) → i < n → i * len + len ≤ n * len

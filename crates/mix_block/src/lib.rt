@@ -4,7 +4,8 @@ ghost use mathlib.Core.List.{foldl};
 ghost use Prim.Native.Nat.{_+_, _*_, _≤_, _<_};
 ghost use lib.ListN.{length};
 ghost use Rattle.lists.specs.Lists.{range};
-ghost use Rattle.mix_block.specs.Inner.Turns.{mostSources, rowPlaces, rampPart, rampSource};
+ghost use Rattle.mix_block.specs.Limits.{mostSources, rowPlaces};
+ghost use Rattle.mix_block.specs.Inner.Turns.{rampPart, rampSource};
 
 // How many sources there may be. Origin: document 01, refusal 3.
 pub const SOURCES: usize = 8;

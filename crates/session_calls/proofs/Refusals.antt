@@ -11,7 +11,7 @@ use lib.ListN.{getD}
 use Rattle.lists.specs.Lists.{any}
 use Rattle.layout_record.specs.Malformed.{malformedOf}
 use Rattle.lists.proofs.Tests.{neither}
-use Rattle.mix_block.specs.Inner.Turns.{mostSources}
+use Rattle.mix_block.specs.Limits.{mostSources}
 use Rattle.session_history.specs.Calls.{place, takeBack, settle}
 use Rattle.session_history.specs.History.{depth}
 use Rattle.session_calls.specs.Session.{malformedBy, malformedSession, standingCount, onSource, numberOf}

@@ -13,7 +13,7 @@ use Rattle.layout_record.specs.Panner.{layoutIn}
 use Rattle.layout_record.specs.Malformed.{malformedOf}
 use Rattle.row_gains.specs.Gains.{finiteOr0, rowOf}
 use Rattle.mix_ramp.specs.Ramp.{rampAddOf}
-use Rattle.mix_block.specs.Inner.Turns.{mostSources, rowPlaces}
+use Rattle.mix_block.specs.Limits.{mostSources, rowPlaces}
 use Rattle.session_history.specs.Calls.{Call, place, takeBack, settle, render}
 use Rattle.session_history.specs.History.{depth, longestBlock}
 use Rattle.session_calls.specs.declared.Session.{Session}
@@ -129,11 +129,11 @@ rampSlot s L samples i outputs o =
     ++ drop ((o + 1) * L) outputs
 
 -- for each source ascending, for each slot ascending. Of a ramped sample that is a NaN sign and payload are the program's; every choice is a quiet NaN
-unfoldable pub mixed : Session → ℕ → List Float → List Float → List Float
-mixed s L samples outputs =
+unfoldable pub mixedOutputs : Session → ℕ → List Float → List Float → List Float
+mixedOutputs s L samples outputs =
     foldl (λ out i. foldl (rampSlot s L samples i) out (range (s .panner .«num_outputs»))) outputs (range (s .sources))
 
 unfoldable pub renderedBuffer : Session → ℕ → List Float → List Float → List Float
 renderedBuffer s L samples outputs =
-    let out = mixed s L samples outputs in
+    let out = mixedOutputs s L samples outputs in
     cond (eqb (numberOf s (render L samples outputs)) 0) out outputs

@@ -5,7 +5,7 @@ ghost use lib.Dec.{ltb};
 ghost use Rattle.lists.specs.Lists.{any};
 ghost use Rattle.session_history.specs.Calls.{place, takeBack, settle};
 ghost use Rattle.session_history.specs.History.{depth};
-ghost use Rattle.mix_block.specs.Inner.Turns.{mostSources};
+ghost use Rattle.mix_block.specs.Limits.{mostSources};
 ghost use Rattle.session_calls.specs.Session.{malformedSession, onSource, numberOf, stood, withStarts};
 ghost use Rattle.session_calls.specs.Answers.{answerOf};
 use layout_record::VbapPanner;

@@ -14,7 +14,7 @@ use Rattle.layout_record.specs.Malformed.{malformedOf}
 use Rattle.layout_record.proofs.WellFormed.{well-formed}
 use Rattle.layout_new.specs.Layout.{outputsOf, active, layoutOf, tooManyTriplets, newRefusal, pannerOf}
 use Rattle.layout_new.proofs.Answers.{accepted-fits}
-use Rattle.mix_block.specs.Inner.Turns.{mostSources}
+use Rattle.mix_block.specs.Limits.{mostSources}
 use Rattle.session_history.specs.Calls.{place, takeBack, settle, render}
 use Rattle.session_history.specs.History.{depth}
 use Rattle.session_calls.specs.Session.{malformedBy, malformedSession, numberOf}

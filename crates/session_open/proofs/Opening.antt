@@ -14,7 +14,7 @@ use Rattle.layout_new.specs.declared.NewPanner.{NewPanner}
 use Rattle.layout_new.specs.Layout.{outputsOf, active, layoutOf, tooManyTriplets, newRefusal, pannerOf, newOf}
 use Rattle.layout_new.specs.Inner.Answers.{accepted}
 use Rattle.layout_new.proofs.Answers.{accepted-is}
-use Rattle.mix_block.specs.Inner.Turns.{mostSources}
+use Rattle.mix_block.specs.Limits.{mostSources}
 use Rattle.session_open.specs.Open.{fresh, openRefusal, refusedBy, openOf}
 use Rattle.session_open.specs.declared.Opened.{Opened}
 

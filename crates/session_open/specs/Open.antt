@@ -10,7 +10,7 @@ use Rattle.layout_record.specs.declared.VbapPanner.{VbapPanner}
 use Rattle.layout_record.specs.Shape.{imaginaryIn}
 use Rattle.layout_record.specs.Panner.{noPanner}
 use Rattle.layout_new.specs.Layout.{outputsOf, active, layoutOf, tooManyTriplets, pannerOf}
-use Rattle.mix_block.specs.Inner.Turns.{mostSources, rowPlaces}
+use Rattle.mix_block.specs.Limits.{mostSources, rowPlaces}
 use Rattle.session_history.specs.History.{depth}
 use Rattle.session_calls.specs.declared.Session.{Session}
 use Rattle.session_open.specs.declared.Opened.{Opened}

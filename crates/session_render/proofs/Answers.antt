@@ -6,9 +6,9 @@ use mathlib.Core.List.{List, flatMap}
 use borrow.Author.Tests.{eq-eqb, ne-eqb}
 use lib.Ieee.{Float}
 use Rattle.lists.specs.Lists.{range}
-use Rattle.mix_block.specs.Inner.Turns.{mostSources}
+use Rattle.mix_block.specs.Limits.{mostSources}
 use Rattle.session_history.specs.Calls.{render}
-use Rattle.session_calls.specs.Session.{withStarts, newStart, rendered, accepted, numberOf, mixed, renderedBuffer}
+use Rattle.session_calls.specs.Session.{withStarts, newStart, rendered, accepted, numberOf, mixedOutputs, renderedBuffer}
 use Rattle.session_calls.specs.Answers.{answerOf}
 use Rattle.session_calls.specs.declared.Session.{Session}
 use Rattle.session_calls.specs.declared.Answer.{Answer}
@@ -18,13 +18,13 @@ module _ (s : Session) (L : ℕ) (samples outputs : List Float) where
   module _ {why : ℕ} (w : why ≡ numberOf s (render L samples outputs)) where
     pub buffer-refused : (why ≡ 0 → ⊥) → outputs ≡ renderedBuffer s L samples outputs
     unfolding renderedBuffer
-    buffer-refused h = sym (ap (λ (b : Bool). cond b (mixed s L samples outputs) outputs) (ne-eqb (numberOf s (render L samples outputs)) 0 (λ e. h (w ∙ e))))
+    buffer-refused h = sym (ap (λ (b : Bool). cond b (mixedOutputs s L samples outputs) outputs) (ne-eqb (numberOf s (render L samples outputs)) 0 (λ e. h (w ∙ e))))
 
     pub render-done : why ≡ 0 → {to : List Float} {t : Session} → to ≡ flatMap (newStart s) (range mostSources) → t ≡ withStarts s to
         → _≡_ {A = Answer} (record { number = 0; session = t }) (answerOf s (render L samples outputs))
     unfolding accepted rendered
     render-done z e f = accepted-as s (render L samples outputs) w z (with-starts-as s f e)
 
-    pub buffer-done : why ≡ 0 → mixed s L samples outputs ≡ renderedBuffer s L samples outputs
+    pub buffer-done : why ≡ 0 → mixedOutputs s L samples outputs ≡ renderedBuffer s L samples outputs
     unfolding renderedBuffer
-    buffer-done z = sym (ap (λ (b : Bool). cond b (mixed s L samples outputs) outputs) (eq-eqb (numberOf s (render L samples outputs)) 0 (sym w ∙ z)))
+    buffer-done z = sym (ap (λ (b : Bool). cond b (mixedOutputs s L samples outputs) outputs) (eq-eqb (numberOf s (render L samples outputs)) 0 (sym w ∙ z)))

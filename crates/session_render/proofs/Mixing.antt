@@ -10,8 +10,9 @@ use Rattle.lists.specs.Lists.{range}
 use Rattle.lists.proofs.Collect.{foldl-snoc}
 use Rattle.lists.proofs.Parts.{getD-part}
 use Rattle.lists.proofs.Ranges.{range-none, range-snoc}
-use Rattle.mix_block.specs.Inner.Turns.{rowPlaces, rampPart, rampSource}
-use Rattle.session_calls.specs.Session.{startRow, target, rampSlot, mixed}
+use Rattle.mix_block.specs.Limits.{rowPlaces}
+use Rattle.mix_block.specs.Inner.Turns.{rampPart, rampSource}
+use Rattle.session_calls.specs.Session.{startRow, target, rampSlot, mixedOutputs}
 use Rattle.session_calls.specs.declared.Session.{Session}
 
 -- two folds whose turns are equal
@@ -29,8 +30,8 @@ module _ (s : Session) (L : ℕ) (samples to : List Float) (few : s .panner .«n
     unfolding rampPart rampSlot startRow
     slot-same x i o h k = rw (e i o h k, getD-part rowPlaces (s .starts) i o nan (omega arith))
 
-    pub mix-same : (out : List Float) → foldl (rampSource L (s .panner .«num_outputs») samples (s .starts) to) out (range (s .sources)) ≡ mixed s L samples out
-    unfolding mixed rampSource
+    pub mix-same : (out : List Float) → foldl (rampSource L (s .panner .«num_outputs») samples (s .starts) to) out (range (s .sources)) ≡ mixedOutputs s L samples out
+    unfolding mixedOutputs rampSource
     mix-same out =
         foldl-same _ _ out (s .sources)
         (λ m i h. foldl-same (rampPart L samples (s .starts) to i) (rampSlot s L samples i) m (s .panner .«num_outputs») (λ x o k. slot-same x i o h k))

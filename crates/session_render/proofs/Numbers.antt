@@ -9,7 +9,7 @@ use borrow.Author.Tests.{ltb-false, eqb-true}
 use lib.Dec.{eqb, ltb}
 use lib.ListN.{length}
 use lib.Ieee.{Float}
-use Rattle.mix_block.specs.Inner.Turns.{rowPlaces}
+use Rattle.mix_block.specs.Limits.{rowPlaces}
 use Rattle.session_history.specs.Calls.{render}
 use Rattle.session_history.specs.History.{longestBlock}
 use Rattle.layout_record.proofs.Counts.{within}

@@ -22,7 +22,7 @@ use Rattle.layout_record.specs.declared.VbapPanner.{VbapPanner}
 use Rattle.layout_record.specs.Panner.{layoutIn}
 use Rattle.layout_record.specs.Malformed.{malformedOf}
 use Rattle.row_gains.specs.Gains.{rowOf, gainsOf, gainsBuffer}
-use Rattle.mix_block.specs.Inner.Turns.{mostSources, rowPlaces}
+use Rattle.mix_block.specs.Limits.{mostSources, rowPlaces}
 use Rattle.session_calls.specs.Session.{standingCount, at, startRow, targetRow, target, newStart}
 use Rattle.session_calls.specs.declared.Session.{Session}
 

@@ -7,7 +7,7 @@ ghost use lib.ListN.{length, getD};
 ghost use lib.Ieee.{nan};
 ghost use Rattle.lists.specs.Lists.{range};
 ghost use Rattle.layout_record.specs.Malformed.{malformedOf};
-ghost use Rattle.mix_block.specs.Inner.Turns.{mostSources, rowPlaces};
+ghost use Rattle.mix_block.specs.Limits.{mostSources, rowPlaces};
 ghost use Rattle.session_history.specs.Calls.{render};
 ghost use Rattle.session_calls.specs.Session.{malformedSession, numberOf, targetRow, target, newStart, renderedBuffer};
 ghost use Rattle.session_calls.specs.Answers.{answerOf};

@@ -5,7 +5,7 @@ ghost use Prim.Native.Nat.{_+_, _-_, _*_, _≤_, _<_};
 ghost use lib.ListN.{take, drop, replicate};
 ghost use lib.Seq.{sets};
 ghost use Rattle.float_order.specs.Values.{+0};
-ghost use Rattle.mix_block.specs.Inner.Turns.{mostSources};
+ghost use Rattle.mix_block.specs.Limits.{mostSources};
 ghost use Rattle.session_history.specs.History.{depth};
 use mix_block::SOURCES;
 

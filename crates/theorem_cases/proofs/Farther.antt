@@ -13,7 +13,7 @@ use Rattle.float_root.specs.Root.{sqrtOf}
 use Rattle.vector.specs.Vector.{dotIn, dotOf, overOf, lengthOf, unitOf}
 use Rattle.vector.specs.Speakers.{Speaker}
 use Rattle.layout_new.specs.Layout.{outputsOf, speakerAt, active, shapeOf, layoutOf, tooManyTriplets}
-use Rattle.mix_block.specs.Inner.Turns.{mostSources}
+use Rattle.mix_block.specs.Limits.{mostSources}
 use Rattle.session_open.specs.Open.{openRefusal, openOf}
 use Rattle.theorem_take_back.specs.Demand3.{Given, Comparable}
 use Rattle.theorem_cases.specs.Table.{F}

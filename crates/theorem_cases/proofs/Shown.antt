@@ -32,7 +32,7 @@ use Rattle.row_planar.specs.PlanarRow.{Two, rel, contains, chosen, shaped, byCr
 use Rattle.row_gains.specs.Gains.{finiteOr0, rowIn, rowOf, gainsOf}
 use Rattle.mix_ramp.specs.Ramp.{rampGain, rampAddOf}
 use Rattle.mix_gain.specs.Mixed.{normSqOf, normalizedLerpGainOf}
-use Rattle.mix_block.specs.Inner.Turns.{mostSources}
+use Rattle.mix_block.specs.Limits.{mostSources}
 use Rattle.session_history.specs.Calls.{place, takeBack}
 use Rattle.session_history.specs.History.{depth}
 use Rattle.session_open.specs.Open.{fresh}

@@ -5,7 +5,7 @@ use mathlib.Core.Path.{_≡_}
 use mathlib.Core.List.{List, [], _∷_, _++_}
 use lib.Ieee.{Float, neg}
 use Rattle.float_order.specs.Values.{+0, 2·0}
-use Rattle.mix_block.specs.Inner.Turns.{mostSources}
+use Rattle.mix_block.specs.Limits.{mostSources}
 use Rattle.session_open.specs.Open.{openOf}
 use Rattle.theorem_take_back.specs.Demand3.{Given, Comparable}
 use Rattle.theorem_cases.specs.Table.{F}

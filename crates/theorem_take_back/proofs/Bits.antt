@@ -19,7 +19,7 @@ use Rattle.theorem_layouts.specs.Sound.{Number}
 use Rattle.lists.proofs.Each.{each-append, each-replicate, each-drop, each-imply, each-both, each-or, each-filled, each-flatMap, foldl-keeps, each-change, each-butLast, each-map}
 use Rattle.theorem_layouts.proofs.Layouts.{panner-no-nan}
 use Rattle.theorem_rows.proofs.Rows.{or-fits, row-finite}
-use Rattle.mix_block.specs.Inner.Turns.{mostSources, rowPlaces}
+use Rattle.mix_block.specs.Limits.{mostSources, rowPlaces}
 use Rattle.session_history.specs.Calls.{Call, place, takeBack, settle, render}
 use Rattle.session_history.specs.History.{Direction, Past, beginning, depth, refusal, onlyLast, lastRow, rerowed, made, step, history, past}
 use Rattle.session_calls.specs.declared.Session.{Session}

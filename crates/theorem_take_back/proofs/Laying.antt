@@ -19,7 +19,7 @@ use Rattle.layout_record.specs.declared.VbapPanner.{VbapPanner}
 use Rattle.layout_record.specs.Shape.{Layout}
 use Rattle.layout_record.specs.Panner.{layoutIn}
 use Rattle.layout_record.specs.Malformed.{malformedOf}
-use Rattle.mix_block.specs.Inner.Turns.{mostSources, rowPlaces}
+use Rattle.mix_block.specs.Limits.{mostSources, rowPlaces}
 use Rattle.session_history.specs.History.{Direction, Past, beginning, stand, relisted, onlyLast}
 use Rattle.session_calls.specs.declared.Session.{Session}
 use Rattle.session_calls.specs.Session.{stood, startRow}

@@ -12,7 +12,7 @@ use Rattle.lists.proofs.Each.{each-all, length-rows}
 use Rattle.lists.proofs.Collect.{flatMap-snoc}
 use Rattle.lists.proofs.Filled.{filled-none, length-filled, set-filled-at, take-filled}
 use Rattle.float_order.specs.Values.{+0}
-use Rattle.mix_block.specs.Inner.Turns.{rowPlaces}
+use Rattle.mix_block.specs.Limits.{rowPlaces}
 use Rattle.session_history.specs.History.{Direction, Past}
 use Rattle.theorem_take_back.specs.Laid.{numbersOf, numbersIn, placesOf, startOf}
 use Rattle.lists.proofs.Rows.{Wide, sets-all, sets-back, getD-filled-any, rowsIn-getD}

@@ -19,7 +19,7 @@ use Rattle.float_order.specs.Values.{+0}
 use Rattle.layout_record.specs.declared.VbapPanner.{VbapPanner}
 use Rattle.layout_record.specs.Shape.{Layout}
 use Rattle.row_gains.specs.Gains.{finiteOr0, rowOf}
-use Rattle.mix_block.specs.Inner.Turns.{mostSources, rowPlaces}
+use Rattle.mix_block.specs.Limits.{mostSources, rowPlaces}
 use Rattle.session_history.specs.Calls.{Call, place, takeBack, settle, render}
 use Rattle.session_history.specs.History.{Direction, Past, quiet, beginning, depth, stand, refusal, relisted, onlyLast, lastRow, rerowed, made, step}
 use Rattle.session_calls.specs.declared.Session.{Session}

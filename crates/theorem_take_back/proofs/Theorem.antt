@@ -16,7 +16,7 @@ use Rattle.layout_record.proofs.Reading.{read-back}
 use Rattle.layout_record.proofs.WellFormed.{well-formed}
 use Rattle.layout_new.specs.Layout.{outputsOf, active, layoutOf, tooManyTriplets, newRefusal, pannerOf, newOf}
 use Rattle.layout_new.proofs.Answers.{answer-number, accepted-fits}
-use Rattle.mix_block.specs.Inner.Turns.{mostSources}
+use Rattle.mix_block.specs.Limits.{mostSources}
 use Rattle.session_history.specs.Calls.{Call}
 use Rattle.session_history.specs.History.{Past, beginning, depth, step, history, past}
 use Rattle.session_calls.specs.declared.Session.{Session}

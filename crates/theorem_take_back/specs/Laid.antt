@@ -9,7 +9,7 @@ use Rattle.lists.specs.Lists.{filled}
 use Rattle.float_order.specs.Values.{+0}
 use Rattle.layout_record.specs.declared.VbapPanner.{VbapPanner}
 use Rattle.layout_new.specs.Layout.{pannerOf}
-use Rattle.mix_block.specs.Inner.Turns.{mostSources, rowPlaces}
+use Rattle.mix_block.specs.Limits.{mostSources, rowPlaces}
 use Rattle.session_history.specs.Calls.{Call}
 use Rattle.session_history.specs.History.{Direction, Past, depth}
 use Rattle.session_calls.specs.declared.Session.{Session}

@@ -1,4 +1,4 @@
--- By what `greatest` ensures. Assumes nothing.
+-- By what `nearest_product` ensures. Assumes nothing.
 use mathlib.Core.Path.{ap}
 use lib.Ieee.{le}
 use Rattle.layout_closing.specs.Closing.{almost, passedOver}
@@ -6,12 +6,12 @@ use borrow.Author.Needs.{needs}
 use Rattle.layout_closing.proofs.passed_over.Statement.{statement}
 use Rattle.layout_closing.proofs.passed_over.Tie as tie
 
-greatest-requires : tie.Need-greatest-requires
-greatest-requires c κs = search needs
+nearest-product-requires : tie.Need-nearest-product-requires
+nearest-product-requires c κs = search needs
 
 returns : tie.Need-returns
 unfolding passedOver
-returns c = ap (le almost) (c .greatest .ensures)
+returns c = ap (le almost) (c .nearest-product .ensures)
 
 pub passed-over-spec : {M : Type 1} → statement M
-passed-over-spec = tie.close (tie.spec greatest-requires returns)
+passed-over-spec = tie.close (tie.spec nearest-product-requires returns)

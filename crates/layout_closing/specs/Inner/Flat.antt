@@ -7,7 +7,7 @@ use lib.ListN.{length}
 use Rattle.float_order.specs.Values.{+0}
 use Rattle.vector.specs.Vector.{Vector, Points}
 use Rattle.layout_hull.specs.Inner.Flat.{hullOf}
-use Rattle.layout_closing.specs.Closing.{greatest, finalPoints, overfull}
+use Rattle.layout_closing.specs.Closing.{nearestProduct, finalPoints, overfull}
 use Rattle.layout_closing.specs.declared.Ended.{Ended}
 use Rattle.layout_closing.specs.declared.Best.{Best}
 
@@ -18,7 +18,7 @@ endedIn real = record { imag = length (finalPoints real) - length real; hull = h
 -- the best candidate so far, with its greatest product; +0 throughout where there is none
 unfoldable pub bestIn : Points → Option Vector → Best
 bestIn pts none = record { found = false; c = +0 ∷ +0 ∷ +0 ∷ []; nearest = +0 }
-bestIn pts (some v) = record { found = true; c = v; nearest = greatest pts v }
+bestIn pts (some v) = record { found = true; c = v; nearest = nearestProduct pts v }
 
 -- the candidate that such a record holds
 unfoldable pub foundIn : Best → Option Vector

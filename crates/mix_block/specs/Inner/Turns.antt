@@ -5,14 +5,7 @@ use lib.ListN.{getD, take, drop}
 use lib.Ieee.{Float, nan}
 use Rattle.lists.specs.Lists.{range, part}
 use Rattle.mix_ramp.specs.Ramp.{rampAddOf}
-
--- how many sources there may be. Origin: document 01, refusal 3.
-abbrev pub mostSources : ℕ
-mostSources = 8
-
--- the places of a row, one for each output. Origin: document 01, refusal 2, at most 40 outputs.
-abbrev pub rowPlaces : ℕ
-rowPlaces = 40
+use Rattle.mix_block.specs.Limits.{rowPlaces}
 
 -- slot o's part, ramped with the samples of source i from its gain in one list of rows to its gain in the other
 unfoldable pub rampPart : ℕ → List Float → List Float → List Float → ℕ → List Float → ℕ → List Float

@@ -7,7 +7,7 @@ use lib.ListN.{length, take, drop}
 use lib.Seq.{take-all}
 use Rattle.lists.specs.Lists.{any}
 use Rattle.lists.proofs.Tests.{any-yes, any-no, any-end}
-use Rattle.mix_block.specs.Inner.Turns.{mostSources}
+use Rattle.mix_block.specs.Limits.{mostSources}
 use Rattle.session_history.specs.History.{depth}
 use native.Mathlib.Omega.{arith}
 use Rattle.session_calls.proofs.counts_over.Statement.{statement}

@@ -8,7 +8,7 @@ use lib.ListN.{length, getD}
 use lib.Ieee.{Float, nan}
 use Rattle.lists.specs.Lists.{range}
 use Rattle.layout_record.specs.declared.VbapPanner.{VbapPanner}
-use Rattle.mix_block.specs.Inner.Turns.{mostSources, rowPlaces}
+use Rattle.mix_block.specs.Limits.{mostSources, rowPlaces}
 use Rattle.session_history.specs.History.{depth}
 use Rattle.session_calls.specs.Session.{target, newStart}
 use Rattle.session_calls.specs.declared.Session.{Session}

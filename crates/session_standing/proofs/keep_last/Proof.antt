@@ -5,7 +5,7 @@ use lib.Ieee.{nan, ofBits}
 use lib.ListN.{length, replicate}
 use lib.Seq.{sets}
 use Rattle.float_order.specs.Values.{+0}
-use Rattle.mix_block.specs.Inner.Turns.{mostSources}
+use Rattle.mix_block.specs.Limits.{mostSources}
 use Rattle.session_history.specs.History.{depth}
 use Rattle.session_standing.proofs.Stores.{sets-step, sets-done}
 use native.Mathlib.Omega.{arith}

@@ -1,7 +1,7 @@
 -- `boundary_records::sessions::hand_out_own` meets its contract: its parts are laid behind the record's. Assumes nothing.
 use mathlib.Core.Path.{refl}
 use mathlib.Core.List.{[], _∷_}
-use Rattle.mix_block.specs.Inner.Turns.{mostSources}
+use Rattle.mix_block.specs.Limits.{mostSources}
 use Rattle.boundary_records.specs.Places.{recordBytePlaces, recordFloatPlaces, startPlaces, standingPlaces}
 use Rattle.boundary_records.specs.Sessions.{ownBytes, ownFloats}
 use Rattle.boundary_records.proofs.Laid.{laid-own}
