@@ -7,24 +7,16 @@ use functions::COUNT;
 use functions::compute;
 use functions::shape_of;
 use test_lines::Cursor;
-use test_lines::Word;
-use test_lines::find;
-use test_lines::is_comment;
 use test_lines::is_end;
-use test_lines::lines::Line;
-use test_lines::lines::Lines;
-use test_lines::lines::next_line;
-use test_lines::next_word;
-use test_lines::same;
+use test_lines::lines;
+use test_lines::named;
+use test_lines::report::is_shown;
 use test_lines::values::Form;
 use test_lines::values::Taken;
 use test_lines::values::Value;
 use test_lines::values::agree;
 use test_lines::values::bits_of;
 use test_lines::values::take;
-
-// How many lines that differ are written. Origin: docs/CASES.md, "Replaying".
-const SHOWN: u64 = 5;
 
 // How a case came out: the function's place, and where the answer differs what it was.
 enum Outcome {
@@ -37,29 +29,6 @@ enum Outcome {
         second: Value,
     },
     Malformed,
-}
-
-// How far the replay is: what is left to read, how many lines were read, how many of them differ, and whether it goes on.
-struct State {
-    lines: Lines,
-    line: u64,
-    differences: u64,
-    goes_on: bool,
-}
-
-// The place of a name in a list of names with one blank between them; their count where it is none of them.
-fn place_of(names: &[u8], name: &[u8]) -> usize {
-    let mut at = 0;
-    let mut k = 0;
-    while at <= names.len() {
-        let e = find(names, at, b' ');
-        if same(&names[at..e], name) {
-            return k;
-        }
-        at = e + 1;
-        k += 1;
-    }
-    k
 }
 
 // The second of two values, or 0 with nothing read where there is one only.
@@ -117,22 +86,6 @@ fn check_call(line: &[u8], c: Cursor, place: usize) -> Outcome {
     }
 }
 
-// A line that is no comment.
-fn check_line(line: &[u8], names: &[u8]) -> Outcome {
-    let step = next_word(line, test_lines::first());
-    let word = step.word;
-    let next = step.next;
-    if let Word::Name(from, to) = word {
-        if from <= to {
-            if to <= line.len() {
-                let place = place_of(names, &line[from..to]);
-                return check_call(line, next, place);
-            }
-        }
-    }
-    Outcome::Malformed
-}
-
 fn counted(counts: &mut [u64; 27], place: usize) {
     if place < 27 {
         counts[place] = std::num::wrapping_add_u64(counts[place], 1);
@@ -142,15 +95,18 @@ fn counted(counts: &mut [u64; 27], place: usize) {
 // Checks a line and writes it where it differs and is among the first five. Answers how many lines differ so far.
 fn replay_line(
     line: &[u8],
+    is_whole: bool,
     number: u64,
     names: &[u8],
     counts: &mut [u64; 27],
     differences: u64,
 ) -> u64 {
-    if is_comment(line) {
-        return differences;
+    if !is_whole {
+        return malformed(line, number, differences);
     }
-    let outcome = check_line(line, names);
+    let name = named(line, names);
+    let next = name.next;
+    let outcome = check_call(line, next, name.place);
     match outcome {
         Outcome::Same(place) => {
             counted(counts, place);
@@ -164,7 +120,7 @@ fn replay_line(
             second,
         } => {
             counted(counts, place);
-            if differences < SHOWN {
+            if is_shown(differences) {
                 report::differs(line, number, form, results, first, second);
             }
             std::num::wrapping_add_u64(differences, 1)
@@ -174,70 +130,23 @@ fn replay_line(
 }
 
 fn malformed(line: &[u8], number: u64, differences: u64) -> u64 {
-    if differences < SHOWN {
-        test_lines::report::malformed(line, number);
+    if is_shown(differences) {
+        report::malformed(line, number);
     }
     std::num::wrapping_add_u64(differences, 1)
 }
 
-// The next line.
-fn turn(buf: &mut [u8], names: &[u8], counts: &mut [u64; 27], s: State) -> State {
-    let lines = s.lines;
-    let next = next_line(libc::STDIN_FILENO, buf, lines);
-    let line = next.line;
-    let left = next.lines;
-    let number = std::num::wrapping_add_u64(s.line, 1);
-    match line {
-        Line::Whole(from, to) => State {
-            lines: left,
-            line: number,
-            differences: replay_line(&buf[from..to], number, names, counts, s.differences),
-            goes_on: true,
-        },
-        Line::Open(from, to) => State {
-            lines: left,
-            line: number,
-            differences: malformed(&buf[from..to], number, s.differences),
-            goes_on: true,
-        },
-        Line::Long(from, to) => State {
-            lines: left,
-            line: number,
-            differences: malformed(&buf[from..to], number, s.differences),
-            goes_on: true,
-        },
-        Line::Rest => State {
-            lines: left,
-            line: s.line,
-            differences: s.differences,
-            goes_on: true,
-        },
-        Line::End => State {
-            lines: left,
-            line: s.line,
-            differences: s.differences,
-            goes_on: false,
-        },
+// All lines: how many differ.
+fn replay_all(names: &[u8], counts: &mut [u64; 27]) -> u64 {
+    let mut buf = io::large_buffer();
+    let mut l = lines::first(libc::STDIN_FILENO, &mut buf);
+    let mut differences: u64 = 0;
+    while l.left > 0 {
+        let line = lines::bytes_of(&buf, l);
+        differences = replay_line(line, l.is_whole, l.number, names, counts, differences);
+        l = lines::next(libc::STDIN_FILENO, &mut buf, l);
     }
-}
-
-// All lines. Nothing says that an input ends, so the turns count down from a number that no run uses up.
-fn replay_all(buf: &mut [u8], names: &[u8], counts: &mut [u64; 27]) -> u64 {
-    let mut s = State {
-        lines: test_lines::lines::start(),
-        line: 0,
-        differences: 0,
-        goes_on: true,
-    };
-    let mut turns = u64::MAX;
-    while turns > 0 {
-        s = turn(buf, names, counts, s);
-        if !s.goes_on {
-            break;
-        }
-        turns -= 1;
-    }
-    s.differences
+    differences
 }
 
 pub fn run() {
@@ -245,7 +154,6 @@ pub fn run() {
     let names =
         b"sqrt32 clamp abs32 powi4 sin32 cos32 is_finite32 sign_bit32 widen sin_cos32 max32 min32 rem_euclid32 sqrt64 abs64 sin64 cos64 atan64 is_finite64 sign_bit64 narrow sin_cos64 max64 rem_euclid64 atan2 f32_from_u64 f64_from_u64";
     let mut counts = [0u64; 27];
-    let mut buf = io::large_buffer();
-    let differences = replay_all(&mut buf, names, &mut counts);
+    let differences = replay_all(names, &mut counts);
     report::totals(names, &counts, differences);
 }

@@ -1,11 +1,11 @@
 // What a replay writes to standard output.
-use io::print_hex;
 use io::write_all;
 use libc::STDOUT_FILENO;
 use test_lines::find;
 use test_lines::report::ended;
 use test_lines::report::heading;
 use test_lines::report::row;
+use test_lines::report::write_value;
 use test_lines::values::Form;
 use test_lines::values::Value;
 
@@ -19,27 +19,25 @@ fn width(form: Form) -> usize {
     }
 }
 
-fn write_value(form: Form, v: Value) {
+fn write_answer(form: Form, v: Value) {
     write_all(STDOUT_FILENO, b" ");
-    match v {
-        Value::Bits(b) => {
-            print_hex(STDOUT_FILENO, b, width(form));
-        }
-        Value::Nan => {
-            write_all(STDOUT_FILENO, b"nan");
-        }
-    }
+    write_value(v, width(form));
 }
 
 // The line, and what the function answered.
 pub fn differs(line: &[u8], number: u64, form: Form, results: usize, first: Value, second: Value) {
     heading(line, number);
     write_all(STDOUT_FILENO, b" got");
-    write_value(form, first);
+    write_answer(form, first);
     if results == 2 {
-        write_value(form, second);
+        write_answer(form, second);
     }
     write_all(STDOUT_FILENO, b"\n");
+}
+
+pub fn malformed(line: &[u8], number: u64) {
+    heading(line, number);
+    write_all(STDOUT_FILENO, b" malformed\n");
 }
 
 // Each function's count, in the order of the names, and their sum.

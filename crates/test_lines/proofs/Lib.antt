@@ -1,4 +1,3 @@
 pub mod Walk
 pub mod Patterns
 pub mod Takes
-pub mod Places

@@ -192,19 +192,41 @@ pub fn next_word(s: &[u8], c: Cursor) -> Step
 
 // ---- what every replay asks of a line
 
-pub fn is_comment(line: &[u8]) -> bool {
-    if line.len() == 0 {
-        return false;
+// The place of a name in a list of names with one blank between them; their count where it is none of them.
+fn place_of(names: &[u8], name: &[u8]) -> usize {
+    let mut at = 0;
+    let mut k = 0;
+    while at <= names.len() {
+        let e = find(names, at, b' ');
+        if same(&names[at..e], name) {
+            return k;
+        }
+        at = e + 1;
+        k += 1;
     }
-    line[0] == b'#'
+    k
 }
 
-// Whether the word that ends at an index of the line is a name.
-pub fn is_named(line: &[u8], to: usize, name: &[u8]) -> bool {
-    if to > line.len() {
-        return false;
+// The place of a line's first word in such a list, past the last where it is none of them, and where the next word starts.
+pub struct FirstWord {
+    pub place: usize,
+    pub next: Cursor,
+}
+
+pub fn named(line: &[u8], names: &[u8]) -> FirstWord {
+    let step = next_word(line, first());
+    let word = step.word;
+    let next = step.next;
+    if let Word::Name(from, to) = word {
+        return FirstWord {
+            place: place_of(names, lines::part(line, from, to)),
+            next,
+        };
     }
-    same(&line[..to], name)
+    FirstWord {
+        place: usize::MAX,
+        next,
+    }
 }
 
 // Whether no word is left.

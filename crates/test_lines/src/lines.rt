@@ -1,43 +1,42 @@
-// The lines of a list, read into a lent buffer.
+// The lines of a list, one after the other, read into a lent buffer.
 ghost use mathlib.Core.Path.{_≡_};
-ghost use Prim.Native.Nat.{_+_, _-_, _≤_};
+ghost use Prim.Native.Nat.{_-_, _≤_};
 ghost use lib.ListN.{length};
-ghost use Rattle.test_lines.specs.Lines.{within};
 use crate::find;
+use crate::values::byte_at;
 
-// What is left to read: the buffer holds bytes that no line has taken, from an index to another.
-// Whether the input has ended, and whether the start of a line that is too long has been answered.
+// What a list is read into. Origin: docs/CASES.md, "Lines".
+pub type Buffer = [u8; 65536];
+
+// The case at hand, and what is left to read behind it.
 pub struct Lines {
+    // a part of the buffer, with no line end, and the number of its line
     pub from: usize,
     pub to: usize,
-    pub ended: bool,
-    pub is_rest: bool,
+    pub number: u64,
+    // false where the buffer does not hold the line, or no line end came
+    pub is_whole: bool,
+    // 0 behind the last case. Nothing says that an input ends, so this counts down from a number that no run uses up.
+    pub left: u64,
+    // false for a comment, and for what follows the start of a line that is too long
+    is_case: bool,
+    // the buffer holds bytes that no line has taken, from an index to another
+    next: usize,
+    held: usize,
+    // whether the input has ended, and whether these bytes follow the start of a line that is too long
+    is_ended: bool,
+    is_rest: bool,
 }
 
-// What comes next: a part of the buffer, with no line end.
-pub enum Line {
-    Whole(usize, usize),
-    // the last bytes, after which no line end came
-    Open(usize, usize),
-    // the start of a line that the buffer does not hold
-    Long(usize, usize),
-    // the end of such a line
-    Rest,
-    End,
-}
-
-pub struct Next {
-    pub line: Line,
-    pub lines: Lines,
-}
-
-pub fn start() -> Lines {
-    Lines {
-        from: 0,
-        to: 0,
-        ended: false,
-        is_rest: false,
+// The bytes from an index to another, or none where there are no such.
+pub fn part<'a>(s: &'a [u8], from: usize, to: usize) -> &'a [u8] {
+    if from > to {
+        return &s[..0];
     }
+    if to > s.len() {
+        return &s[..0];
+    }
+    &s[from..to]
 }
 
 // Moves the bytes from an index to another to the front, and answers how many there are.
@@ -57,131 +56,125 @@ fn to_front(buf: &mut [u8], from: usize, to: usize) -> usize
     n
 }
 
-// The line from an index to a line end, in a buffer that holds bytes to an index.
-fn ended_line(from: usize, e: usize, c: Lines) -> Next
-    requires { ⌜ (from ≤ e) × (e + 1 ≤ c .to) ⌝ }
-    ensures { λ r. ⌜ within (c .to) (r .line) ⌝ }
-{
-    let lines = Lines {
-        from: e + 1,
-        to: c.to,
-        ended: c.ended,
-        is_rest: false,
-    };
-    if c.is_rest {
-        return Next {
-            line: Line::Rest,
-            lines,
-        };
-    }
-    Next {
-        line: Line::Whole(from, e),
-        lines,
-    }
-}
-
-// What is left where the input has ended.
-fn last_line(from: usize, to: usize, is_rest: bool) -> Next
-    requires { ⌜ from ≤ to ⌝ }
-    ensures { λ r. ⌜ within to (r .line) ⌝ }
-{
-    let lines = Lines {
-        from: to,
-        to,
-        ended: true,
-        is_rest: false,
-    };
-    if from == to {
-        return Next {
-            line: Line::End,
-            lines,
-        };
-    }
-    if is_rest {
-        return Next {
-            line: Line::Rest,
-            lines,
-        };
-    }
-    Next {
-        line: Line::Open(from, to),
-        lines,
-    }
-}
-
-// A buffer that one line fills.
-fn long_line(to: usize, is_rest: bool) -> Next
-    ensures { λ r. ⌜ within to (r .line) ⌝ }
-{
-    let lines = Lines {
-        from: to,
-        to,
-        ended: false,
-        is_rest: true,
-    };
-    if is_rest {
-        return Next {
-            line: Line::Rest,
-            lines,
-        };
-    }
-    Next {
-        line: Line::Long(0, to),
-        lines,
-    }
-}
-
 // Reads on after the bytes that the buffer holds, and answers how many it then holds.
 fn fill(fd: i32, buf: &mut [u8], held: usize) -> usize
     requires { ⌜ held ≤ length (now buf) ⌝ }
-    ensures { λ r. ⌜ (held ≤ r) × (r ≤ length (now (buf .entry))) ⌝ }
 {
     let got = io::read_full(fd, &mut buf[held..]);
     held + got
 }
 
-// The next line where the buffer holds its start at most.
-fn refill(fd: i32, buf: &mut [u8], from: usize, to: usize, is_rest: bool) -> Next
-    requires { ⌜ (from ≤ to) × (to ≤ length (now buf)) ⌝ }
-    ensures { λ r. ⌜ within (length (now (buf .entry))) (r .line) ⌝ }
+// With more bytes behind those that no line has taken.
+fn refilled(fd: i32, buf: &mut [u8], c: Lines) -> Lines
+    requires { ⌜ (c .next ≤ c .held) × (c .held ≤ length (now buf)) ⌝ }
+    ensures { λ r. ⌜ r .left ≤ c .left ⌝ }
 {
-    let held = to_front(buf, from, to);
-    let filled = fill(fd, buf, held);
-    let ended = (filled == held) | (filled < buf.len());
-    let e = find(&buf[..filled], held, b'\n');
-    if e < filled {
-        let c = Lines {
-            from: 0,
-            to: filled,
-            ended,
-            is_rest,
-        };
-        return ended_line(0, e, c);
-    }
-    if ended {
-        return last_line(0, filled, is_rest);
-    }
-    long_line(filled, is_rest)
+    let kept = to_front(buf, c.next, c.held);
+    let held = fill(fd, buf, kept);
+    let mut l = c;
+    l.is_case = false;
+    l.next = 0;
+    l.held = held;
+    l.is_ended = held < buf.len();
+    l
 }
 
-// The next line of what is left. A read that fails ends the input.
-pub fn next_line(fd: i32, buf: &mut [u8], c: Lines) -> Next
-    ensures { λ r. ⌜ within (length (now (buf .entry))) (r .line) ⌝ }
+// With the line to an index, behind which the next one starts. The end of a line that is too long is no line.
+fn line_to(c: Lines, to: usize, next: usize, is_whole: bool, is_comment: bool) -> Lines
+    ensures { λ r. ⌜ r .left ≤ c .left ⌝ }
 {
-    let from = c.from;
-    let to = c.to;
-    if to > buf.len() {
-        return last_line(0, 0, false);
+    let more = if c.is_rest { 0 } else { 1 };
+    let mut l = c;
+    l.from = c.next;
+    l.to = to;
+    l.number = std::num::wrapping_add_u64(c.number, more);
+    l.is_whole = is_whole;
+    l.is_case = !(c.is_rest | is_comment);
+    l.next = next;
+    l.is_rest = !is_whole;
+    l
+}
+
+// Behind the last line.
+fn ended(c: Lines) -> Lines
+    ensures { λ r. ⌜ r .left ≤ c .left ⌝ }
+{
+    let mut l = c;
+    l.is_case = false;
+    l.left = 0;
+    l
+}
+
+// The next line, or more bytes to find its end in. A read that fails ends the input.
+fn step(fd: i32, buf: &mut [u8], c: Lines) -> Lines
+    ensures { λ r. ⌜ r .left ≤ c .left ⌝ }
+{
+    let next = c.next;
+    let held = c.held;
+    if held > buf.len() {
+        return ended(c);
     }
-    if from > to {
-        return last_line(0, 0, false);
+    if next > held {
+        return ended(c);
     }
-    let e = find(&buf[..to], from, b'\n');
-    if e < to {
-        return ended_line(from, e, c);
+    let e = find(part(buf, 0, held), next, b'\n');
+    if e < held {
+        return line_to(c, e, e + 1, true, byte_at(buf, next) == b'#');
     }
-    if c.ended {
-        return last_line(from, to, c.is_rest);
+    if c.is_ended & (next == held) {
+        return ended(c);
     }
-    refill(fd, buf, from, to, c.is_rest)
+    if c.is_ended | (held - next == buf.len()) {
+        return line_to(c, held, held, false, false);
+    }
+    refilled(fd, buf, c)
+}
+
+fn next_in(fd: i32, buf: &mut [u8], c: Lines) -> Lines
+    ensures { λ r. ⌜ r .left ≤ c .left - 1 ⌝ }
+{
+    let mut l = c;
+    while l.left > 0 {
+        l.left -= 1;
+        l = step(fd, buf, l);
+        if l.is_case {
+            return l;
+        }
+    }
+    l
+}
+
+// The next case.
+pub fn next(fd: i32, buf: &mut Buffer, c: Lines) -> Lines
+    ensures { λ r. ⌜ r .left ≤ c .left - 1 ⌝ }
+{
+    next_in(fd, buf, c)
+}
+
+// The first case.
+pub fn first(fd: i32, buf: &mut Buffer) -> Lines {
+    let c = Lines {
+        from: 0,
+        to: 0,
+        number: 0,
+        is_whole: false,
+        left: u64::MAX,
+        is_case: false,
+        next: 0,
+        held: 0,
+        is_ended: false,
+        is_rest: false,
+    };
+    next(fd, buf, c)
+}
+
+// The bytes of the line at hand.
+pub fn bytes_of<'a>(buf: &'a Buffer, c: Lines) -> &'a [u8] {
+    part(buf, c.from, c.to)
+}
+
+// The line at hand where it is whole, or an empty line, which is malformed.
+pub fn line_of<'a>(buf: &'a Buffer, c: Lines) -> &'a [u8] {
+    let to = if c.is_whole { c.to } else { c.from };
+    part(buf, c.from, to)
 }

@@ -52,7 +52,7 @@ fn has_form(form: Form, first: u8, value: u64, digits: usize) -> bool
     }
 }
 
-fn byte_at(s: &[u8], at: usize) -> u8
+pub fn byte_at(s: &[u8], at: usize) -> u8
     ensures { λ r. ⌜ r ≡ getD (now (s .entry)) at 0 ⌝ }
 {
     if at < s.len() { s[at] } else { 0 }

@@ -8,30 +8,15 @@ ghost use Prim.Native.Nat.{_≤_};
 ghost use lib.ListN.{length};
 use results::Outcome;
 use test_lines::Cursor;
-use test_lines::Word;
-use test_lines::is_comment;
-use test_lines::is_named;
-use test_lines::lines::Line;
-use test_lines::lines::Lines;
-use test_lines::lines::next_line;
-use test_lines::next_word;
+use test_lines::lines;
+use test_lines::named;
+use test_lines::report::is_shown;
 
-// How many lines that differ are written. Origin: docs/CASES.md, "Replaying".
-const SHOWN: u64 = 5;
-
-// How far the replay is: how many lines were read, how many cases there were of each function, and how many lines differ.
+// How many cases there were of each function, and how many lines differ.
 struct Counts {
-    line: u64,
     ramps: u64,
     mixes: u64,
     differences: u64,
-}
-
-// The same with what is left to read, and whether it goes on.
-struct State {
-    lines: Lines,
-    counts: Counts,
-    goes_on: bool,
 }
 
 // ---- a case
@@ -89,138 +74,57 @@ fn check_mix(line: &[u8], c: Cursor) -> Outcome {
 
 // ---- a line
 
-// With a line more, how its case came out.
-fn told(line: &[u8], c: Counts, outcome: Outcome) -> Counts {
-    let number = std::num::wrapping_add_u64(c.line, 1);
-    let more = match outcome {
-        Outcome::Same => 0,
-        Outcome::Differs(place, got) => {
-            if c.differences < SHOWN {
-                report::differs(line, number, place, got);
-            }
-            1
-        }
-        Outcome::Malformed => {
-            if c.differences < SHOWN {
-                test_lines::report::malformed(line, number);
-            }
-            1
-        }
+// Writes a line that differs where it is among the first five. Answers how many lines differ so far.
+fn told(line: &[u8], number: u64, differences: u64, outcome: Outcome) -> u64 {
+    if let Outcome::Same = outcome {
+        return differences;
+    }
+    if is_shown(differences) {
+        report::differs(line, number, outcome);
+    }
+    std::num::wrapping_add_u64(differences, 1)
+}
+
+// With a case more.
+fn replay_line(line: &[u8], number: u64, c: Counts) -> Counts {
+    let name = named(line, b"ramp_add normalized_lerp_gain");
+    let place = name.place;
+    let next = name.next;
+    match place {
+        0 => Counts {
+            ramps: std::num::wrapping_add_u64(c.ramps, 1),
+            mixes: c.mixes,
+            differences: told(line, number, c.differences, check_ramp(line, next)),
+        },
+        1 => Counts {
+            ramps: c.ramps,
+            mixes: std::num::wrapping_add_u64(c.mixes, 1),
+            differences: told(line, number, c.differences, check_mix(line, next)),
+        },
+        _ => Counts {
+            ramps: c.ramps,
+            mixes: c.mixes,
+            differences: told(line, number, c.differences, Outcome::Malformed),
+        },
+    }
+}
+
+fn replay_all() -> Counts {
+    let mut buf = io::large_buffer();
+    let mut l = lines::first(libc::STDIN_FILENO, &mut buf);
+    let mut c = Counts {
+        ramps: 0,
+        mixes: 0,
+        differences: 0,
     };
-    Counts {
-        line: number,
-        ramps: c.ramps,
-        mixes: c.mixes,
-        differences: std::num::wrapping_add_u64(c.differences, more),
+    while l.left > 0 {
+        c = replay_line(lines::line_of(&buf, l), l.number, c);
+        l = lines::next(libc::STDIN_FILENO, &mut buf, l);
     }
-}
-
-fn with_ramp(c: Counts) -> Counts {
-    Counts {
-        line: c.line,
-        ramps: std::num::wrapping_add_u64(c.ramps, 1),
-        mixes: c.mixes,
-        differences: c.differences,
-    }
-}
-
-fn with_mix(c: Counts) -> Counts {
-    Counts {
-        line: c.line,
-        ramps: c.ramps,
-        mixes: std::num::wrapping_add_u64(c.mixes, 1),
-        differences: c.differences,
-    }
-}
-
-// A line that is no comment.
-fn replay_case(line: &[u8], c: Counts) -> Counts {
-    let step = next_word(line, test_lines::first());
-    let word = step.word;
-    let next = step.next;
-    if let Word::Name(_, to) = word {
-        if is_named(line, to, b"ramp_add") {
-            return told(line, with_ramp(c), check_ramp(line, next));
-        }
-        if is_named(line, to, b"normalized_lerp_gain") {
-            return told(line, with_mix(c), check_mix(line, next));
-        }
-    }
-    told(line, c, Outcome::Malformed)
-}
-
-// With a line more.
-fn replay_line(line: &[u8], c: Counts) -> Counts {
-    if is_comment(line) {
-        return told(line, c, Outcome::Same);
-    }
-    replay_case(line, c)
-}
-
-// ---- all lines
-
-// The next line. One that the buffer does not hold, or that has no end, is malformed.
-fn turn(buf: &mut [u8], s: State) -> State {
-    let from = s.lines;
-    let c = s.counts;
-    let next = next_line(libc::STDIN_FILENO, buf, from);
-    let line = next.line;
-    let lines = next.lines;
-    match line {
-        Line::Whole(a, e) => State {
-            lines,
-            counts: replay_line(&buf[a..e], c),
-            goes_on: true,
-        },
-        Line::Open(_, _) => State {
-            lines,
-            counts: told(b"", c, Outcome::Malformed),
-            goes_on: true,
-        },
-        Line::Long(_, _) => State {
-            lines,
-            counts: told(b"", c, Outcome::Malformed),
-            goes_on: true,
-        },
-        Line::Rest => State {
-            lines,
-            counts: c,
-            goes_on: true,
-        },
-        Line::End => State {
-            lines,
-            counts: c,
-            goes_on: false,
-        },
-    }
-}
-
-// All lines. Nothing says that an input ends, so the turns count down from a number that no run uses up.
-fn replay_all(buf: &mut [u8]) -> State {
-    let mut s = State {
-        lines: test_lines::lines::start(),
-        counts: Counts {
-            line: 0,
-            ramps: 0,
-            mixes: 0,
-            differences: 0,
-        },
-        goes_on: true,
-    };
-    let mut turns = u64::MAX;
-    while turns > 0 {
-        s = turn(buf, s);
-        if !s.goes_on {
-            return s;
-        }
-        turns -= 1;
-    }
-    s
+    c
 }
 
 fn main() {
-    let mut buf = io::large_buffer();
-    let s = replay_all(&mut buf);
-    let c = s.counts;
+    let c = replay_all();
     report::totals(c.ramps, c.mixes, c.differences);
 }

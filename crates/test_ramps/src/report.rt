@@ -1,20 +1,26 @@
 // What a replay writes to standard output.
-use io::print_decimal;
+use crate::results::Outcome;
 use io::write_all;
 use libc::STDOUT_FILENO;
 use test_lines::report::ended;
 use test_lines::report::heading;
 use test_lines::report::row;
-use test_lines::report::write_value;
-use test_lines::values::Value;
+use test_lines::report::write_place;
+
+fn write_outcome(outcome: Outcome) {
+    match outcome {
+        Outcome::Same => {}
+        Outcome::Differs(place, got) => write_place(b" at ", place, got),
+        Outcome::Malformed => {
+            write_all(STDOUT_FILENO, b" malformed");
+        }
+    }
+}
 
 // The line, the first of its results that differs, and what was answered there.
-pub fn differs(line: &[u8], number: u64, place: usize, got: Value) {
+pub fn differs(line: &[u8], number: u64, outcome: Outcome) {
     heading(line, number);
-    write_all(STDOUT_FILENO, b" at ");
-    print_decimal(STDOUT_FILENO, place as u64);
-    write_all(STDOUT_FILENO, b" got ");
-    write_value(got);
+    write_outcome(outcome);
     write_all(STDOUT_FILENO, b"\n");
 }
 

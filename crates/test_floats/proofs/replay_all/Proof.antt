@@ -1,46 +1,41 @@
--- `test_floats::replay_all` is safe and ends: the turns count down, and the buffer keeps its length. Assumes nothing.
-use mathlib.Core.Path.{_≡_, refl}
-use lib.ListN.{length}
-use borrow.Author.Needs.{needs}
+-- `test_floats::replay_all` is safe and ends: what is left to read counts down. Assumes nothing.
 use native.Mathlib.Omega.{arith}
+use borrow.Author.Needs.{needs}
 use Rattle.test_floats.proofs.replay_all.Statement.{statement}
 use Rattle.test_floats.proofs.replay_all.Tie as tie
 
 abbrev Inv-loop : tie.InvT-loop
-Inv-loop buf₀ names counts₀ s₀ turns₀ buf counts s turns = length buf ≡ length buf₀
+Inv-loop names counts₀ buf₀ l₀ differences₀ counts buf l differences = Unit {0}
 
 abbrev μ-loop : tie.MeasureT-loop
-μ-loop buf₀ names counts₀ s₀ turns₀ buf counts s turns = turns
+μ-loop names counts₀ buf₀ l₀ differences₀ counts buf l differences = l .left
 
-start-requires : tie.Need-start-requires Inv-loop μ-loop
-start-requires c κs = search needs
+large-buffer-requires : tie.Need-large-buffer-requires Inv-loop μ-loop
+large-buffer-requires c κs = search needs
+
+first-requires : tie.Need-first-requires Inv-loop μ-loop
+first-requires c κs = search needs
 
 loop-holds : tie.Need-loop-holds Inv-loop μ-loop
-loop-holds c = refl
+loop-holds c = tt
 
-turn-requires : tie.Need-turn-requires Inv-loop μ-loop
-turn-requires c κs = search needs
+bytes-of-requires : tie.Need-bytes-of-requires Inv-loop μ-loop
+bytes-of-requires c κs = search needs
 
-sub-turns : tie.Need-sub-turns Inv-loop μ-loop
-sub-turns c = omega arith
+replay-line-requires : tie.Need-replay-line-requires Inv-loop μ-loop
+replay-line-requires c κs = search needs
+
+next-requires : tie.Need-next-requires Inv-loop μ-loop
+next-requires c κs = search needs
 
 loop-less : tie.Need-loop-less Inv-loop μ-loop
 loop-less c = omega arith
 
 loop-again : tie.Need-loop-again Inv-loop μ-loop
-loop-again c = omega arith
-
-same-length : tie.Need-same-length Inv-loop μ-loop
-same-length c = omega arith
+loop-again c = tt
 
 returns : tie.Need-returns Inv-loop μ-loop
 returns c = tt
-
-same-length-2 : tie.Need-same-length-2 Inv-loop μ-loop
-same-length-2 c = omega arith
-
-returns-2 : tie.Need-returns-2 Inv-loop μ-loop
-returns-2 c = tt
 
 pub replay-all-spec : {M : Type 1} → statement M
 replay-all-spec =
@@ -48,13 +43,12 @@ replay-all-spec =
     (tie.spec
     Inv-loop
     μ-loop
-    start-requires
+    large-buffer-requires
+    first-requires
     loop-holds
-    turn-requires
-    sub-turns
+    bytes-of-requires
+    replay-line-requires
+    next-requires
     loop-less
     loop-again
-    same-length
-    returns
-    same-length-2
-    returns-2)
+    returns)

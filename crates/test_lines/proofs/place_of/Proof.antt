@@ -1,11 +1,11 @@
--- `test_floats::place_of` is safe and ends: each word ends within the list, and the next starts further on. Assumes nothing.
+-- `test_lines::place_of` is safe and ends: each word ends within the list, and the next starts further on. Assumes nothing.
 use Prim.Native.Nat.{_+_, _-_, _≤_}
 use lib.ListN.{length}
 use Rattle.test_lines.proofs.Walk.{span-within}
 use borrow.Author.Needs.{needs}
 use native.Mathlib.Omega.{arith}
-use Rattle.test_floats.proofs.place_of.Statement.{statement}
-use Rattle.test_floats.proofs.place_of.Tie as tie
+use Rattle.test_lines.proofs.place_of.Statement.{statement}
+use Rattle.test_lines.proofs.place_of.Tie as tie
 
 abbrev Inv-loop : tie.InvT-loop
 Inv-loop names name at₀ k₀ at k = k ≤ at
