@@ -8,19 +8,11 @@ mod report;
 use call::Called;
 use session_calls::Session;
 use test_call_words::sums;
-use test_lines::Cursor;
-use test_lines::Word;
-use test_lines::is_comment;
-use test_lines::is_named;
-use test_lines::lines::Line;
-use test_lines::lines::Lines;
-use test_lines::lines::next_line;
-use test_lines::next_word;
+use test_lines::lines;
+use test_lines::named;
+use test_lines::report::is_shown;
 use test_lines::values::Value;
 use test_record_words::words::Walk;
-
-// How many lines that differ are written. Origin: docs/CASES.md, "Replaying".
-const SHOWN: u64 = 5;
 
 // The samples of eight sources, and those of forty outputs. Origin: document 01, refusals 3, 2 and 8; one more than a block may have.
 const SAMPLES: usize = 8200;
@@ -49,60 +41,7 @@ struct Held {
     differences: u64,
 }
 
-// How far the replay is: the same with what is left to read, how many lines were read, and whether it goes on.
-struct State {
-    lines: Lines,
-    held: Held,
-    line: u64,
-    goes_on: bool,
-}
-
 // ---- a line
-
-// The place of the name that ends at an index of the line; 7 for any other than these seven.
-fn place_of(line: &[u8], to: usize) -> usize {
-    if is_named(line, to, b"open") {
-        return 0;
-    }
-    if is_named(line, to, b"session") {
-        return 1;
-    }
-    if is_named(line, to, b"place") {
-        return 2;
-    }
-    if is_named(line, to, b"take_back") {
-        return 3;
-    }
-    if is_named(line, to, b"settle") {
-        return 4;
-    }
-    if is_named(line, to, b"render") {
-        return 5;
-    }
-    if is_named(line, to, b"end") {
-        return 6;
-    }
-    7
-}
-
-// The place of a line's first word.
-struct Named {
-    place: usize,
-    next: Cursor,
-}
-
-fn name_of(line: &[u8]) -> Named {
-    let step = next_word(line, test_lines::first());
-    let word = step.word;
-    let next = step.next;
-    if let Word::Name(_, to) = word {
-        return Named {
-            place: place_of(line, to),
-            next,
-        };
-    }
-    Named { place: 7, next }
-}
 
 fn counted(counts: &mut [u64; 7], place: usize) {
     if place < 7 {
@@ -121,7 +60,7 @@ fn told(line: &[u8], number: u64, differences: u64, outcome: Outcome) -> u64 {
     if let Outcome::Same = outcome {
         return differences;
     }
-    if differences < SHOWN {
+    if is_shown(differences) {
         report::differs(line, number, outcome);
     }
     std::num::wrapping_add_u64(differences, 1)
@@ -173,16 +112,13 @@ fn replay_line(
     number: u64,
     counts: &mut [u64; 7],
     numbers: &mut [u64; 12],
-    samples: &mut [f32],
-    outputs: &mut [f32],
+    samples: &mut [f32; SAMPLES],
+    outputs: &mut [f32; OUTPUTS],
     h: Held,
 ) -> Held {
-    if is_comment(line) {
-        return h;
-    }
-    let named = name_of(line);
-    let place = named.place;
-    let next = named.next;
+    let name = named(line, b"open session place take_back settle render end");
+    let place = name.place;
+    let next = name.next;
     let w = Walk { next, good: true };
     counted(counts, place);
     if place == 6 {
@@ -200,68 +136,7 @@ fn replay_line(
     }
 }
 
-// With a line that the buffer does not hold, or that has no end: it is malformed.
-fn broken(number: u64, h: Held) -> Held {
-    let session = h.session;
-    Held {
-        session,
-        sum: h.sum,
-        is_begun: h.is_begun,
-        differences: told(b"", number, h.differences, Outcome::Malformed),
-    }
-}
-
 // ---- all lines
-
-// The next line.
-fn turn(
-    from: i32,
-    buf: &mut [u8],
-    counts: &mut [u64; 7],
-    numbers: &mut [u64; 12],
-    samples: &mut [f32],
-    outputs: &mut [f32],
-    s: State,
-) -> State {
-    let left = s.lines;
-    let h = s.held;
-    let next = next_line(from, buf, left);
-    let line = next.line;
-    let lines = next.lines;
-    let number = std::num::wrapping_add_u64(s.line, 1);
-    match line {
-        Line::Whole(a, e) => State {
-            lines,
-            held: replay_line(&buf[a..e], number, counts, numbers, samples, outputs, h),
-            line: number,
-            goes_on: true,
-        },
-        Line::Open(_, _) => State {
-            lines,
-            held: broken(number, h),
-            line: number,
-            goes_on: true,
-        },
-        Line::Long(_, _) => State {
-            lines,
-            held: broken(number, h),
-            line: number,
-            goes_on: true,
-        },
-        Line::Rest => State {
-            lines,
-            held: h,
-            line: s.line,
-            goes_on: true,
-        },
-        Line::End => State {
-            lines,
-            held: h,
-            line: s.line,
-            goes_on: false,
-        },
-    }
-}
 
 // What `open` answers on nothing.
 fn no_session() -> Session {
@@ -272,49 +147,41 @@ fn no_session() -> Session {
     session
 }
 
-fn start() -> State {
+fn start() -> Held {
     let session = no_session();
-    State {
-        lines: test_lines::lines::start(),
-        held: Held {
-            session,
-            sum: sums::START,
-            is_begun: false,
-            differences: 0,
-        },
-        line: 0,
-        goes_on: true,
+    Held {
+        session,
+        sum: sums::START,
+        is_begun: false,
+        differences: 0,
     }
 }
 
-// How many lines differ: a list that has no end counts as one.
-fn differences_of(s: State) -> u64 {
-    let h = s.held;
+// How many lines differ, of so many: a list that has no end counts as one.
+fn differences_of(number: u64, h: Held) -> u64 {
     if h.is_begun {
-        return told(b"", s.line, h.differences, Outcome::Malformed);
+        return told(b"", number, h.differences, Outcome::Malformed);
     }
     h.differences
 }
 
-// All lines: how many differ. Nothing says that an input ends, so the turns count down from a number that no run uses up.
+// All lines: how many differ.
 fn replay_all(
     from: i32,
-    buf: &mut [u8],
     counts: &mut [u64; 7],
     numbers: &mut [u64; 12],
-    samples: &mut [f32],
-    outputs: &mut [f32],
+    samples: &mut [f32; SAMPLES],
+    outputs: &mut [f32; OUTPUTS],
 ) -> u64 {
-    let mut s = start();
-    let mut turns = u64::MAX;
-    while turns > 0 {
-        s = turn(from, buf, counts, numbers, samples, outputs, s);
-        if !s.goes_on {
-            return differences_of(s);
-        }
-        turns -= 1;
+    let mut buf = io::large_buffer();
+    let mut l = lines::first(from, &mut buf);
+    let mut h = start();
+    while l.left > 0 {
+        let line = lines::line_of(&buf, l);
+        h = replay_line(line, l.number, counts, numbers, samples, outputs, h);
+        l = lines::next(from, &mut buf, l);
     }
-    differences_of(s)
+    differences_of(l.number, h)
 }
 
 // The lists of a descriptor, and what they come to.
@@ -323,15 +190,7 @@ fn replay(from: i32) {
     let mut numbers = [0u64; 12];
     let mut samples = [0.0f32; SAMPLES];
     let mut outputs = [0.0f32; OUTPUTS];
-    let mut buf = io::large_buffer();
-    let differences = replay_all(
-        from,
-        &mut buf,
-        &mut counts,
-        &mut numbers,
-        &mut samples,
-        &mut outputs,
-    );
+    let differences = replay_all(from, &mut counts, &mut numbers, &mut samples, &mut outputs);
     report::totals(&counts, &numbers, differences);
 }
 

@@ -1,24 +1,12 @@
 // What a replay writes to standard output.
 use crate::Outcome;
-use io::print_decimal;
 use io::print_hex;
 use io::write_all;
 use libc::STDOUT_FILENO;
+use test_lines::report::count_row;
 use test_lines::report::heading;
-use test_lines::report::write_value;
-use test_lines::values::Value;
-
-fn write_float(what: &[u8], place: usize, got: Value) {
-    write_all(STDOUT_FILENO, what);
-    print_decimal(STDOUT_FILENO, place as u64);
-    write_all(STDOUT_FILENO, b" got ");
-    write_value(got);
-}
-
-fn write_number(what: &[u8], got: u64) {
-    write_all(STDOUT_FILENO, what);
-    print_decimal(STDOUT_FILENO, got);
-}
+use test_lines::report::write_number;
+use test_lines::report::write_place;
 
 fn write_sum(what: &[u8], got: u64) {
     write_all(STDOUT_FILENO, what);
@@ -39,8 +27,8 @@ fn write_outcome(outcome: Outcome) {
         Outcome::Record(got) => write_sum(b" got sum of record ", got),
         Outcome::Sources(got) => write_number(b" got sources ", got as u64),
         Outcome::Count(place, got) => write_count(place, got),
-        Outcome::Standing(place, got) => write_float(b" standing ", place, got),
-        Outcome::Start(place, got) => write_float(b" start ", place, got),
+        Outcome::Standing(place, got) => write_place(b" standing ", place, got),
+        Outcome::Start(place, got) => write_place(b" start ", place, got),
         Outcome::Malformed => {
             write_all(STDOUT_FILENO, b" malformed");
         }
@@ -54,16 +42,9 @@ pub fn differs(line: &[u8], number: u64, outcome: Outcome) {
     write_all(STDOUT_FILENO, b"\n");
 }
 
-fn row(name: &[u8], count: u64) {
-    write_all(STDOUT_FILENO, name);
-    write_all(STDOUT_FILENO, b" ");
-    print_decimal(STDOUT_FILENO, count);
-    write_all(STDOUT_FILENO, b"\n");
-}
-
 fn number_row(number: usize, count: u64) {
     write_number(b"number ", number as u64);
-    row(b":", count);
+    count_row(b":", count);
 }
 
 // How often each number was answered.
@@ -83,16 +64,16 @@ fn sum(counts: &[u64; 7]) -> u64 {
 }
 
 pub fn totals<'a>(counts: &'a [u64; 7], numbers: &'a [u64; 12], differences: u64) {
-    row(b"open", counts[0]);
-    row(b"session", counts[1]);
-    row(b"place", counts[2]);
-    row(b"take_back", counts[3]);
-    row(b"settle", counts[4]);
-    row(b"render", counts[5]);
+    count_row(b"open", counts[0]);
+    count_row(b"session", counts[1]);
+    count_row(b"place", counts[2]);
+    count_row(b"take_back", counts[3]);
+    count_row(b"settle", counts[4]);
+    count_row(b"render", counts[5]);
     write_numbers(numbers);
-    row(b"calls", sum(counts));
-    row(b"lists", counts[6]);
-    row(b"differences", differences);
+    count_row(b"calls", sum(counts));
+    count_row(b"lists", counts[6]);
+    count_row(b"differences", differences);
 }
 
 // What stands between the two reports.

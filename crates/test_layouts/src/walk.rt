@@ -3,8 +3,7 @@
 use crate::fields::MALFORMED;
 use crate::fields::NONE;
 use test_lines::Cursor;
-use test_lines::Word;
-use test_lines::next_word;
+use test_lines::is_end;
 use test_lines::values::Form;
 use test_lines::values::Value;
 use test_lines::values::agree;
@@ -78,8 +77,5 @@ pub fn count(line: &[u8], w: Walk, used: bool, got: u8, most: u8, field: u32) ->
 // The line has to end here.
 pub fn end(line: &[u8], w: Walk) -> Walk {
     let c = w.next;
-    let step = next_word(line, c);
-    let last = step.word;
-    let is = if let Word::End = last { true } else { false };
-    holds(w, is, MALFORMED)
+    holds(w, is_end(line, c), MALFORMED)
 }

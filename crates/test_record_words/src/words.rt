@@ -2,8 +2,7 @@
 ghost use mathlib.Core.Path.{_≡_};
 ghost use Prim.Native.Nat.{_≤_};
 use test_lines::Cursor;
-use test_lines::Word;
-use test_lines::next_word;
+use test_lines::is_end;
 use test_lines::values::Form;
 use test_lines::values::bits_of;
 use test_lines::values::single;
@@ -94,8 +93,5 @@ pub fn read_byte(line: &[u8], w: Walk, most: u8) -> Byte
 // The line has to end here.
 pub fn at_end(line: &[u8], w: Walk) -> Walk {
     let c = w.next;
-    let step = next_word(line, c);
-    let last = step.word;
-    let is = if let Word::End = last { true } else { false };
-    holds(w, is)
+    holds(w, is_end(line, c))
 }

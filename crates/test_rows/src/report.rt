@@ -1,37 +1,19 @@
 // What a replay writes to standard output.
 use crate::Outcome;
-use io::print_decimal;
 use io::write_all;
 use libc::STDOUT_FILENO;
 use test_lines::report::ended;
 use test_lines::report::heading;
 use test_lines::report::row;
-use test_lines::report::write_value;
-use test_lines::values::Value;
-
-fn write_place(place: usize, got: Value) {
-    write_all(STDOUT_FILENO, b" at ");
-    print_decimal(STDOUT_FILENO, place as u64);
-    write_all(STDOUT_FILENO, b" got ");
-    write_value(got);
-}
-
-fn write_number(got: u64) {
-    write_all(STDOUT_FILENO, b" got number ");
-    print_decimal(STDOUT_FILENO, got);
-}
-
-fn write_count(got: u64) {
-    write_all(STDOUT_FILENO, b" got count ");
-    print_decimal(STDOUT_FILENO, got);
-}
+use test_lines::report::write_number;
+use test_lines::report::write_place;
 
 fn write_outcome(outcome: Outcome) {
     match outcome {
         Outcome::Same => {}
-        Outcome::Number(got) => write_number(got as u64),
-        Outcome::Count(got) => write_count(got as u64),
-        Outcome::Place(place, got) => write_place(place, got),
+        Outcome::Number(got) => write_number(b" got number ", got as u64),
+        Outcome::Count(got) => write_number(b" got count ", got as u64),
+        Outcome::Place(place, got) => write_place(b" at ", place, got),
         Outcome::Malformed => {
             write_all(STDOUT_FILENO, b" malformed");
         }

@@ -1,46 +1,41 @@
--- `test_layouts::replay_all` is safe and ends: the turns count down, and the buffer keeps its length. Assumes nothing.
-use mathlib.Core.Path.{_≡_, refl}
-use lib.ListN.{length}
-use borrow.Author.Needs.{needs}
+-- `test_layouts::replay_all` is safe and ends: what is left to read counts down. Assumes nothing.
 use native.Mathlib.Omega.{arith}
+use borrow.Author.Needs.{needs}
 use Rattle.test_layouts.proofs.replay_all.Statement.{statement}
 use Rattle.test_layouts.proofs.replay_all.Tie as tie
 
 abbrev Inv-loop : tie.InvT-loop
-Inv-loop buf₀ s₀ turns₀ buf s turns = length buf ≡ length buf₀
+Inv-loop buf₀ l₀ c₀ buf l c = Unit {0}
 
 abbrev μ-loop : tie.MeasureT-loop
-μ-loop buf₀ s₀ turns₀ buf s turns = turns
+μ-loop buf₀ l₀ c₀ buf l c = l .left
 
-start-requires : tie.Need-start-requires Inv-loop μ-loop
-start-requires c κs = search needs
+large-buffer-requires : tie.Need-large-buffer-requires Inv-loop μ-loop
+large-buffer-requires c κs = search needs
+
+first-requires : tie.Need-first-requires Inv-loop μ-loop
+first-requires c κs = search needs
 
 loop-holds : tie.Need-loop-holds Inv-loop μ-loop
-loop-holds c = refl
+loop-holds c = tt
 
-turn-requires : tie.Need-turn-requires Inv-loop μ-loop
-turn-requires c κs = search needs
+line-of-requires : tie.Need-line-of-requires Inv-loop μ-loop
+line-of-requires c κs = search needs
 
-same-length : tie.Need-same-length Inv-loop μ-loop
-same-length c = omega arith
+replay-line-requires : tie.Need-replay-line-requires Inv-loop μ-loop
+replay-line-requires c κs = search needs
 
-returns : tie.Need-returns Inv-loop μ-loop
-returns c = tt
-
-sub-turns : tie.Need-sub-turns Inv-loop μ-loop
-sub-turns c = omega arith
+next-requires : tie.Need-next-requires Inv-loop μ-loop
+next-requires c κs = search needs
 
 loop-less : tie.Need-loop-less Inv-loop μ-loop
 loop-less c = omega arith
 
 loop-again : tie.Need-loop-again Inv-loop μ-loop
-loop-again c = omega arith
+loop-again c = tt
 
-same-length-2 : tie.Need-same-length-2 Inv-loop μ-loop
-same-length-2 c = omega arith
-
-returns-2 : tie.Need-returns-2 Inv-loop μ-loop
-returns-2 c = tt
+returns : tie.Need-returns Inv-loop μ-loop
+returns c = tt
 
 pub replay-all-spec : {M : Type 1} → statement M
 replay-all-spec =
@@ -48,13 +43,12 @@ replay-all-spec =
     (tie.spec
     Inv-loop
     μ-loop
-    start-requires
+    large-buffer-requires
+    first-requires
     loop-holds
-    turn-requires
-    same-length
-    returns
-    sub-turns
+    line-of-requires
+    replay-line-requires
+    next-requires
     loop-less
     loop-again
-    same-length-2
-    returns-2)
+    returns)

@@ -1,52 +1,44 @@
--- `test_rows::replay_all` is safe and ends: the turns count down, and the buffer keeps its length. Assumes nothing.
-use mathlib.Core.Path.{_≡_, refl}
-use lib.ListN.{length}
-use borrow.Author.Needs.{needs}
+-- `test_rows::replay_all` is safe and ends: what is left to read counts down. Assumes nothing.
 use native.Mathlib.Omega.{arith}
+use borrow.Author.Needs.{needs}
 use Rattle.test_rows.proofs.replay_all.Statement.{statement}
 use Rattle.test_rows.proofs.replay_all.Tie as tie
 
 abbrev Inv-loop : tie.InvT-loop
-Inv-loop buf₀ counts₀ s₀ turns₀ buf counts s turns = length buf ≡ length buf₀
+Inv-loop counts₀ buf₀ l₀ h₀ counts buf l h = Unit {0}
 
 abbrev μ-loop : tie.MeasureT-loop
-μ-loop buf₀ counts₀ s₀ turns₀ buf counts s turns = turns
+μ-loop counts₀ buf₀ l₀ h₀ counts buf l h = l .left
+
+large-buffer-requires : tie.Need-large-buffer-requires Inv-loop μ-loop
+large-buffer-requires c κs = search needs
+
+first-requires : tie.Need-first-requires Inv-loop μ-loop
+first-requires c κs = search needs
 
 start-requires : tie.Need-start-requires Inv-loop μ-loop
 start-requires c κs = search needs
 
 loop-holds : tie.Need-loop-holds Inv-loop μ-loop
-loop-holds c = refl
+loop-holds c = tt
 
-turn-requires : tie.Need-turn-requires Inv-loop μ-loop
-turn-requires c κs = search needs
+line-of-requires : tie.Need-line-of-requires Inv-loop μ-loop
+line-of-requires c κs = search needs
 
-differences-of-requires : tie.Need-differences-of-requires Inv-loop μ-loop
-differences-of-requires c κs = search needs
+replay-line-requires : tie.Need-replay-line-requires Inv-loop μ-loop
+replay-line-requires c κs = search needs
 
-same-length : tie.Need-same-length Inv-loop μ-loop
-same-length c = omega arith
-
-returns : tie.Need-returns Inv-loop μ-loop
-returns c = tt
-
-sub-turns : tie.Need-sub-turns Inv-loop μ-loop
-sub-turns c = omega arith
+next-requires : tie.Need-next-requires Inv-loop μ-loop
+next-requires c κs = search needs
 
 loop-less : tie.Need-loop-less Inv-loop μ-loop
 loop-less c = omega arith
 
 loop-again : tie.Need-loop-again Inv-loop μ-loop
-loop-again c = omega arith
+loop-again c = tt
 
-differences-of-requires-2 : tie.Need-differences-of-requires-2 Inv-loop μ-loop
-differences-of-requires-2 c κs = search needs
-
-same-length-2 : tie.Need-same-length-2 Inv-loop μ-loop
-same-length-2 c = omega arith
-
-returns-2 : tie.Need-returns-2 Inv-loop μ-loop
-returns-2 c = tt
+returns : tie.Need-returns Inv-loop μ-loop
+returns c = tt
 
 pub replay-all-spec : {M : Type 1} → statement M
 replay-all-spec =
@@ -54,15 +46,13 @@ replay-all-spec =
     (tie.spec
     Inv-loop
     μ-loop
+    large-buffer-requires
+    first-requires
     start-requires
     loop-holds
-    turn-requires
-    differences-of-requires
-    same-length
-    returns
-    sub-turns
+    line-of-requires
+    replay-line-requires
+    next-requires
     loop-less
     loop-again
-    differences-of-requires-2
-    same-length-2
-    returns-2)
+    returns)
