@@ -1,6 +1,7 @@
 -- `boundary_exports::layouts::panner_new` meets its contract: a refusal writes nothing, and an accepted call the record that it answers. Assumes nothing.
 use mathlib.Core.Path.{refl, sym}
 use borrow.Author.Tests.{ne-eqb}
+use Rattle.boundary_records.specs.Places.{recordBytePlaces, recordFloatPlaces}
 use Rattle.boundary_records.specs.Records.{recordBytes, recordFloats}
 use Rattle.boundary_records.proofs.Laid.{laid-all}
 use borrow.Author.Needs.{needs}
@@ -26,8 +27,8 @@ returns-2 c =
       (
         refl,
         (
-          laid-all (recordBytes p) (a .bytes .now) 1022 (c .before .before .hand-out-arg .given .0 .1) (h .0),
-          laid-all (recordFloats p) (a .floats .now) 1080 (c .before .hand-out-arg2 .given .0 .1) (h .1 .0),
+          laid-all (recordBytes p) (a .bytes .now) recordBytePlaces (c .before .before .hand-out-arg .given .0 .1) (h .0),
+          laid-all (recordFloats p) (a .floats .now) recordFloatPlaces (c .before .hand-out-arg2 .given .0 .1) (h .1 .0),
         ),
       ),
     )
