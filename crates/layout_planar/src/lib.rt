@@ -143,17 +143,24 @@ fn pair_of(g: f64, s: Spot, t: Spot, a: SinCos, b: SinCos) -> Joined
     })
 }
 
-// The pairs of no ring: every place holds 0, +0 or the crossfade.
-pub fn no_pairs() -> [PlanarPair; 40]
-    ensures { λ r. ⌜ r ≡ replicate 40 noPair ⌝ }
+// What an unused place of the pairs holds: 0, +0 or the crossfade.
+fn no_pair() -> PlanarPair
+    ensures { λ r. ⌜ r ≡ noPair ⌝ }
 {
-    let none = PlanarPair {
+    PlanarPair {
         start: 0.0,
         gap: 0.0,
         a: 0,
         b: 0,
         law: Law::Crossfade,
-    };
+    }
+}
+
+// The pairs of no ring.
+pub fn no_pairs() -> [PlanarPair; 40]
+    ensures { λ r. ⌜ r ≡ replicate 40 noPair ⌝ }
+{
+    let none = no_pair();
     [none; 40]
 }
 
@@ -164,7 +171,8 @@ pub fn build_planar(out: &[u8; 40], dir: &[f64; 120], n: usize) -> Planar
     ensures { λ r. ⌜ r ≡ planarIn n (now (out .entry)) (now (dir .entry)) ⌝ }
 {
     let a = angle_sort::sorted(spots(out, dir, n), n);
-    let mut pairs = no_pairs();
+    let none = no_pair();
+    let mut pairs = [none; 40];
     let mut num_pairs: usize = 0;
     let first = a[0];
     let mut here = float_sine::sin_cos(first.angle);

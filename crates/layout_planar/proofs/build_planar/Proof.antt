@@ -58,8 +58,8 @@ spots-requires c κs = c .pre
 sorted-requires : tie.Need-sorted-requires Inv-loop μ-loop
 sorted-requires c κs = search needs
 
-no-pairs-requires : tie.Need-no-pairs-requires Inv-loop μ-loop
-no-pairs-requires c κs = search needs
+no-pair-requires : tie.Need-no-pair-requires Inv-loop μ-loop
+no-pair-requires c κs = search needs
 
 array-copy-out-first : tie.Need-array-copy-out-first Inv-loop μ-loop
 array-copy-out-first c = omega arith
@@ -68,7 +68,7 @@ sin-cos-requires : tie.Need-sin-cos-requires Inv-loop μ-loop
 sin-cos-requires c κs = search needs
 
 loop-holds : tie.Need-loop-holds Inv-loop μ-loop
-loop-holds c = (zero-le, zero-le, λ h. both-told _ (c .sin-cos .ensures), rw (c .before .before .no-pairs .ensures) (pairs-none _))
+loop-holds c = (zero-le, zero-le, λ h. both-told _ (c .sin-cos .ensures), rw (c .before .before .no-pair .ensures) (pairs-none _))
 
 add-j : tie.Need-add-j Inv-loop μ-loop
 add-j c = omega arith
@@ -158,7 +158,7 @@ build-planar-spec =
     μ-loop
     spots-requires
     sorted-requires
-    no-pairs-requires
+    no-pair-requires
     array-copy-out-first
     sin-cos-requires
     loop-holds
