@@ -1,9 +1,11 @@
 // A stable insertion sort by angle.
+#![tactic(auto)]
+
 ghost use Rattle.std.specs.Prelude.{◌≡◌, min};
 ghost use Rattle.angle_sort.specs.Inner.Front.{sorted_in};
 
 // An angle and the number of what stands at it.
-#[derive(Drop)]
+#[derive(Clone, Copy)]
 pub struct Spot {
     pub angle: f64,
     pub number: usize,

@@ -1,4 +1,6 @@
 // The number work of each number of an array. A function stops at the end of its shortest slice.
+#![tactic(auto)]
+
 ghost use Rattle.std.specs.Prelude.{◌≡◌, min, length};
 ghost use Rattle.std.specs.Float.{binary32, binary64};
 ghost use Rattle.float_widths.specs.Narrow.{narrow_of};

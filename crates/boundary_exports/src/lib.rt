@@ -4,6 +4,8 @@
 // Where a float is computed and the result is a NaN, its sign and payload are the program's choice; what every choice has in common
 // is that it is a NaN, and a quiet one (the driver looks for that). A definition has one NaN, so the promises say no more of it.
 // Where a float only travels, it keeps its bits. Each promise below says which of the two holds.
+#![tactic(auto)]
+
 mod layouts;
 mod numbers;
 mod ramps;

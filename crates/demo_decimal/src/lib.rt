@@ -1,11 +1,13 @@
 // A float in decimal text: the nearest number with so many digits after the point, a tie to the even one.
 // Origin of 6, the most digits after the point: what the printed rehearsal shows of an angle and of a gain, steps of a millionth. A number below 2^24 is then below 2^44 steps.
+#![tactic(auto)]
+
 ghost use Rattle.std.specs.Prelude.{◌≡◌, ◌^◌, ◌≤◌, ◌<◌};
 ghost use Rattle.std.specs.Float.Ieee.Nearest.{closest};
 ghost use Rattle.demo_decimal.specs.Decimal.{decimal_of};
 
 // A float's size in steps of one unit of the last digit.
-#[derive(Drop)]
+#[derive(Clone, Copy)]
 pub enum Size {
     Steps(u64),
     // 2^24 or above, an infinity too

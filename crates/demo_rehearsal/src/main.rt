@@ -1,4 +1,6 @@
 // A first look at the panner: the layout of a dome, its gains at named directions, and a rehearsal of two sources, printed.
+#![tactic(auto)]
+
 mod angles;
 mod calls;
 mod columns;

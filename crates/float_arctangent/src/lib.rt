@@ -1,4 +1,6 @@
 // Arctangent and atan2 by the steps of document 01, "Number work". Where the angle is a NaN, its sign and payload are the program's: every choice is a NaN, and a quiet one.
+#![tactic(auto)]
+
 ghost use Rattle.std.specs.Prelude.{◌≡◌};
 ghost use Rattle.float_sine.specs.Series.{sum_of};
 ghost use Rattle.float_arctangent.specs.Arctangent.{arctangent_coefficients, halved_of, atan_of, ratio_of, first_quadrant_of, with_sign_of_x, with_sign_of_y, atan2_of};

@@ -22,6 +22,7 @@ is_nan_lem x = go (ne x x) (differs_from_itself x) (nan_not x)
   where
     as_false : (b : Bool) → T (not b) → false ≡ b
     as_false false t = refl
+    as_false true t = elim t [ ]
 
     go : (b : Bool) → (T b → x ≡ nan) → (b ≡ false → T (not (is_nan x))) → b ≡ is_nan x
     go true h g = sym (ap is_nan (h tt))

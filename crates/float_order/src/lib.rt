@@ -2,6 +2,8 @@
 // Of a NaN the promises say only that it is one: its sign and payload are the program's, and every choice is a NaN. What is computed is a quiet one (IEEE 754-2019, 6.2);
 // abs32, abs64 and clamp hand a NaN on as it came, as copies do.
 // Origin of the weights of the sign, 2^31 = 0x8000_0000 and 2^63 = 0x8000_0000_0000_0000: IEEE 754-2019, table 3.5.
+#![tactic(auto)]
+
 ghost use Rattle.std.specs.Prelude.{◌≡◌, cond};
 ghost use Rattle.std.specs.Float.{binary32, binary64};
 ghost use Rattle.std.specs.Float.Ieee.{add, lt};

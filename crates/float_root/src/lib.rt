@@ -3,13 +3,15 @@
 // Every literal that is a format's constant is IEEE 754-2019, table 3.5. binary32: 24 digits (prec), largest exponent 127 (emax), smallest value 2^-149.
 // binary64: 53 digits, largest exponent 1023, smallest value 2^-1074. In a bit pattern the exponent's field weighs 2^23 = 0x80_0000 and 2^52 = 0x10_0000_0000_0000,
 // the sign 2^31 = 0x8000_0000 and 2^63 = 0x8000_0000_0000_0000, and the highest field, of infinities and NaNs, is 255 and 2047.
+#![tactic(auto)]
+
 ghost use Rattle.std.specs.Prelude.{◌≡◌, false, ◌+◌, ◌-◌, ◌*◌, ◌^◌, ◌≤◌, ◌<◌};
 ghost use Rattle.std.specs.Float.{Format, binary32, binary64};
 ghost use Rattle.std.specs.Float.Ieee.{prec, low, units};
 ghost use Rattle.float_root.specs.Root.{round_root, sqrt_of};
 
 // A number q * 2^k.
-#[derive(Drop)]
+#[derive(Clone, Copy)]
 struct Parts {
     q: u64,
     k: u32,
@@ -105,7 +107,7 @@ fn sqrt32_by_digits(x: f32) -> f32
 
 // A guess at the root of an x, and at 1 / (2 * root), the slope of the root there; upper is near the root and has few digits.
 // Nothing is promised of a guess, and nothing rests on one: `sqrt64_near` promises the root for every guess, since what is made from it is checked in whole numbers. A bad guess costs time and no bit.
-#[derive(Drop)]
+#[derive(Clone, Copy)]
 pub struct Guess {
     pub root: f64,
     pub upper: f64,

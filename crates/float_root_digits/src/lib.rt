@@ -1,9 +1,11 @@
 // The digits of a square root, over whole numbers: found one after the other, and tested where a float guesses them.
 // Every literal that is a format's constant is IEEE 754-2019, table 3.5: in a binary64's bit pattern the exponent's field weighs 2^52 = 0x10_0000_0000_0000, in a binary32's 2^23 = 0x80_0000.
+#![tactic(auto)]
+
 ghost use Rattle.std.specs.Prelude.{◌≡◌, ◌+◌, ◌-◌, ◌*◌, ◌/◌, ◌%◌, ◌^◌, ◌<◌, ◌≤◌, true};
 
 // A whole root, and what is left.
-#[derive(Drop)]
+#[derive(Clone, Copy)]
 pub struct Found {
     pub root: u64,
     pub rem: u64,

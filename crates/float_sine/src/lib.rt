@@ -1,4 +1,6 @@
 // Sine and cosine by the steps of document 01, "Number work". Of a NaN or an infinity both are NaN: its sign and payload are the program's, every choice is a NaN, and it is a quiet one.
+#![tactic(auto)]
+
 ghost use Rattle.std.specs.Prelude.{◌≡◌, T};
 ghost use Rattle.std.specs.Float.{binary64};
 ghost use Rattle.std.specs.Float.Ieee.{mul, le, of_int};
@@ -110,7 +112,7 @@ fn rem_two_pi(v: f64) -> f64
 }
 
 // k as a float, and k mod 4.
-#[derive(Drop)]
+#[derive(Clone, Copy)]
 struct Turn {
     k: f64,
     m: u8,
@@ -149,7 +151,7 @@ fn turn_of(q: f64) -> Turn
 }
 
 // The sine and the cosine of one value.
-#[derive(Drop)]
+#[derive(Clone, Copy)]
 pub struct SinCos {
     pub sin: f64,
     pub cos: f64,
@@ -192,7 +194,7 @@ pub fn cos(v: f64) -> f64
 }
 
 // The same in 32 bits: widened, computed, narrowed.
-#[derive(Drop)]
+#[derive(Clone, Copy)]
 pub struct SinCos32 {
     pub sin: f32,
     pub cos: f32,

@@ -2,6 +2,8 @@
 // Every literal that is a format's constant is IEEE 754-2019, table 3.5. binary32: 24 digits (prec), largest exponent 127 (emax), smallest value 2^-149.
 // binary64: 53 digits, largest exponent 1023, smallest value 2^-1074. In a bit pattern the exponent's field weighs 2^23 = 0x80_0000 and 2^52 = 0x10_0000_0000_0000,
 // the sign 2^31 = 0x8000_0000 and 2^63 = 0x8000_0000_0000_0000, and the highest field, of infinities and NaNs, is 255 and 2047.
+#![tactic(auto)]
+
 ghost use Rattle.std.specs.Prelude.{◌≡◌, ◌+◌, ◌*◌, ◌/◌, ◌%◌, ◌^◌, ◌<◌, ◌≤◌, ◌&&◌, ◌||◌, pos, if◌then◌else◌, ◌==◌, nat_eq};
 ghost use Rattle.std.specs.Float.{binary32, binary64};
 ghost use Rattle.std.specs.Float.Ieee.{units, round, of_int};

@@ -1,5 +1,7 @@
 // Imaginary speakers: poles and candidates, added until the hull is closed.
 // Lengths of arrays: 40 directions (document 01, refusal 2) and 14 imaginary points (vbap.rs line 60) are 54 points, of three numbers each: 120 and 162.
+#![tactic(auto)]
+
 ghost use Rattle.std.specs.Prelude.{◌≡◌, [], ◌∷◌, ◌++◌, ◌+◌, ◌≤◌, ◌<◌, length};
 ghost use Rattle.lists.specs.Lists.{filled};
 ghost use Rattle.float_order.specs.Values.{+0};
@@ -11,7 +13,7 @@ use layout_hull::Hull;
 use vector::MAX_IMAGINARY;
 
 // What the closing ends with: how many imaginary points there are, poles counted; the hull of all points, which is open where no candidate or no room was left; whether a triplet list on the way had more than 80 entries.
-#[derive(Drop)]
+#[derive(Clone, Copy)]
 pub struct Ended {
     pub imag: usize,
     pub hull: Hull,
@@ -19,7 +21,7 @@ pub struct Ended {
 }
 
 // The best candidate so far, with its greatest product.
-#[derive(Drop)]
+#[derive(Clone, Copy)]
 struct Best {
     found: bool,
     c: [f64; 3],

@@ -1,5 +1,7 @@
 // The tests of a triple of points for a face of the hull, up to the distance of its plane.
 // Lengths of arrays: 40 speakers (document 01, refusal 2) and 14 imaginary points (vbap.rs line 60) are 54 points, of three numbers each: 162.
+#![tactic(auto)]
+
 ghost use Rattle.std.specs.Prelude.{◌≡◌, true, ◌≤◌, ◌<◌};
 ghost use Rattle.lists.specs.Lists.{part};
 ghost use Rattle.vector.specs.Vector.{points_in};
@@ -24,14 +26,14 @@ const LARGEST: f64 = 2.0;
 const MARGIN: f64 = 0.0000152587890625;
 
 // On which sides of a plane no other point stands.
-#[derive(Drop)]
+#[derive(Clone, Copy)]
 pub struct Sides {
     pub below: bool,
     pub above: bool,
 }
 
 // What the face tests say of a triple.
-#[derive(Drop)]
+#[derive(Clone, Copy)]
 pub enum Face {
     // no face of the hull
     Skip,

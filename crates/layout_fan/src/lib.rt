@@ -1,5 +1,7 @@
 // The points in one plane with a face of the hull, and the one fan that they make.
 // Lengths of arrays: 40 directions (document 01, refusal 2) and 14 imaginary points (vbap.rs line 60) are 54 points, of three numbers each: 162. A fan has all of them but its lowest, 53; with a triple in one plane are all but its own three, 51.
+#![tactic(auto)]
+
 ghost use Rattle.std.specs.Prelude.{◌≡◌, ◌∷◌, ◌≤◌, ◌<◌, ltb, take, replicate};
 ghost use Rattle.lists.specs.Lists.{every};
 ghost use Rattle.vector.specs.Vector.{points_in};

@@ -1,5 +1,7 @@
 // The faces of the convex hull of points about the origin, as triplets of point numbers with the inverse of their matrix.
 // Lengths of arrays: 40 speakers (document 01, refusal 2) and 14 imaginary points (vbap.rs line 60) are 54 points, of three numbers each: 162. 80 triplets (document 01, refusal 4) have 3 point numbers and 9 inverse entries each: 240 and 720.
+#![tactic(auto)]
+
 ghost use Rattle.std.specs.Prelude.{◌≡◌, [], ◌∷◌, ◌*◌, ◌≤◌, ◌<◌};
 ghost use Rattle.std.proofs.lemmas.List.Edits.{sets};
 ghost use Rattle.lists.specs.Lists.{part};
@@ -14,7 +16,7 @@ use layout_faces::Face;
 const LEAST_DETERMINANT: f64 = 1e-9;
 
 // The triplets of a hull laid flat (the source's `tris`), whether there were more than 80, and whether they tile the sphere (the source's `tiled`).
-#[derive(Drop)]
+#[derive(Clone, Copy)]
 pub struct Hull {
     pub idx: [u8; 240],
     pub inv: [f32; 720],

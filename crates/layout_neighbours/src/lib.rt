@@ -1,5 +1,7 @@
 // The real speakers that stand in for each imaginary one.
 // Lengths of arrays: 40 speakers (document 01, refusal 2), 14 imaginary points (vbap.rs line 60), 54 points in all; 80 triplets (refusal 4) of three point numbers are 240, 14 lists of 40 slots are 560.
+#![tactic(auto)]
+
 ghost use Rattle.std.specs.Prelude.{◌≡◌, ◌+◌, ◌-◌, ◌*◌, ◌≤◌, ◌<◌, length, take, drop, ◌++◌};
 ghost use Rattle.lists.specs.Lists.{member, part};
 ghost use Rattle.layout_neighbours.specs.Neighbours.{reach, across, pass, neighbours_of};
@@ -7,21 +9,21 @@ ghost use Rattle.layout_neighbours.specs.Inner.Flat.{triples_in, neighbours_in, 
 ghost use Rattle.layout_neighbours.specs.Inner.Search.{arrays_of, Held, Leads, Points, Slots, found_in};
 
 // How many neighbours each of the fourteen imaginary points has, and their slots: neighbour j of the k-th at k * 40 + j.
-#[derive(Drop)]
+#[derive(Clone, Copy)]
 pub struct ImagNbrs {
     pub num_nbrs: [u8; 14],
     pub imag_nbrs: [u8; 560],
 }
 
 // How many points the search visited, and how many slots it found.
-#[derive(Drop)]
+#[derive(Clone, Copy)]
 struct Counts {
     seen: usize,
     found: usize,
 }
 
 // The neighbours of one point.
-#[derive(Drop)]
+#[derive(Clone, Copy)]
 struct Found {
     nbrs: [u8; 40],
     count: usize,

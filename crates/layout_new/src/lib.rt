@@ -1,5 +1,7 @@
 // `VbapPanner::new`: from positions to the record.
 // Lengths of arrays: those of crate layout_record's record, whose origins stand there.
+#![tactic(auto)]
+
 ghost use Rattle.std.specs.Prelude.{◌≡◌, [], map, ◌+◌, ◌*◌, ◌≤◌, ◌<◌, length, take};
 ghost use Rattle.lists.specs.Lists.{range, collect, every, member, filled};
 ghost use Rattle.float_order.specs.Values.{+0};
@@ -18,7 +20,7 @@ use layout_record::{Kind, VbapPanner};
 const PLANAR_MAX_HEIGHT: f64 = 0.08718915504410238;
 
 // What `new` answers: 0 or the refusal's number, the layout, and how many imaginary points were made.
-#[derive(Drop)]
+#[derive(Clone, Copy)]
 pub struct NewPanner {
     pub number: u32,
     pub panner: VbapPanner,

@@ -1,5 +1,7 @@
 // The pairs of a planar layout.
 // Lengths of arrays: 40 speakers (document 01, refusal 2), so at most 40 pairs, and three numbers a direction, 120. 53 is the room of crate angle_sort: of 54 points, 40 speakers and 14 imaginary ones (vbap.rs line 60), all but one.
+#![tactic(auto)]
+
 ghost use Rattle.std.specs.Prelude.{◌≡◌, ◌+◌, ◌*◌, ◌<◌, ◌≤◌, true, map, length, replicate};
 ghost use Rattle.lists.specs.Lists.{every, filled, part};
 ghost use Rattle.vector.specs.Speakers.{speakers_in};
@@ -10,14 +12,14 @@ use angle_sort::Spot;
 use float_sine::SinCos;
 
 // How a planar pair shares its power (document 01: the law): the inverse of its two directions' matrix, row after row, or the crossfade.
-#[derive(Drop)]
+#[derive(Clone, Copy)]
 pub enum Law {
     Inverse(f32, f32, f32, f32),
     Crossfade,
 }
 
 // Two neighbours on the ring: the azimuth of a, the gap from a to b going positive, both slots, and the law.
-#[derive(Drop)]
+#[derive(Clone, Copy)]
 pub struct PlanarPair {
     pub start: f32,
     pub gap: f32,
@@ -27,14 +29,14 @@ pub struct PlanarPair {
 }
 
 // The pairs in the order of the ring, and how many there are.
-#[derive(Drop)]
+#[derive(Clone, Copy)]
 pub struct Planar {
     pub pairs: [PlanarPair; 40],
     pub num_pairs: usize,
 }
 
 // What two neighbours on the ring make.
-#[derive(Drop)]
+#[derive(Clone, Copy)]
 enum Joined {
     Coincident,
     Pair(PlanarPair),

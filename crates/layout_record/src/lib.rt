@@ -1,5 +1,7 @@
 // A layout by value: the record of a panner, and the test of a record made by hand.
 // Lengths of arrays: 40 outputs, pairs, planar slots, real points and neighbours of one, 80 triplets and 14 imaginary points (document 01, "Returned numbers", 11). Three numbers a direction are 120; 3 point numbers and 9 inverse entries a triplet, 240 and 720; 14 lists of 40 neighbours, 560.
+#![tactic(auto)]
+
 ghost use Rattle.std.specs.Prelude.{◌≡◌, true, ◌||◌, ◌*◌, ◌≤◌, ltb, leb, length, take};
 ghost use mathlib.Core.List.{[], ◌∷◌, map, flat_map};
 ghost use Rattle.lists.specs.Lists.{range, every, any};
@@ -9,7 +11,7 @@ ghost use Rattle.layout_record.specs.Malformed.{any_from, planar_out, hull_out, 
 use layout_planar::PlanarPair;
 
 // Which of the four layouts stands; the fields beside it hold the rest.
-#[derive(Drop)]
+#[derive(Clone, Copy)]
 pub enum Kind {
     Silent,
     Mono,
@@ -19,7 +21,7 @@ pub enum Kind {
 
 // The panner of the source (document 01: a layout). Of each array the first places are used, as many as its count says.
 // Slots, point numbers and counts are bytes. In a record that is not malformed no count is above 80, and of the numbers that its kind and counts reach no slot is above 39 and no point above 53.
-#[derive(Drop)]
+#[derive(Clone, Copy)]
 pub struct VbapPanner {
     pub num_outputs: u8,
     pub kind: Kind,
@@ -45,7 +47,7 @@ pub struct VbapPanner {
 }
 
 // What `num_outputs` answers: 0 or 11, and the count of outputs.
-#[derive(Drop)]
+#[derive(Clone, Copy)]
 pub struct Outputs {
     pub number: u32,
     pub count: usize,

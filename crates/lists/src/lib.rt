@@ -1,1 +1,2 @@
 // Words on lists, as definitions and laws that the other crates cite. It has no code.
+#![tactic(auto)]

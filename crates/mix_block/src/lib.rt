@@ -1,4 +1,6 @@
 // Mixing: document 01, "Session" ("For each source ascending, for each slot ascending"), over the gains at a block's start and end.
+#![tactic(auto)]
+
 ghost use Rattle.std.specs.Prelude.{◌≡◌, ◌+◌, ◌*◌, ◌≤◌, ◌<◌, length};
 ghost use mathlib.Core.List.{foldl};
 ghost use Rattle.lists.specs.Lists.{range};

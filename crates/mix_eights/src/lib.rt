@@ -1,6 +1,8 @@
 // Eight samples of a ramp at once, and their counts: all are read before any is stored, so that they are computed side by side.
 // Origin of 8: two vectors of four 32-bit floats. Any number serves: what a ramp promises does not depend on it.
 // Free to the program: the sign and payload of a NaN in a sample. Every choice is a NaN, and a quiet one, since a sample is a sum.
+#![tactic(auto)]
+
 ghost use Rattle.std.specs.Prelude.{◌≡◌, ◌+◌, ◌≤◌, length, get_or, set};
 ghost use mathlib.Core.List.{map, foldl};
 ghost use Rattle.std.specs.Float.{nan, binary32};

@@ -1,4 +1,6 @@
 // The mixed gain: document 01, "The ramp and the mixed gain follow S"; source lines 143 to 153.
+#![tactic(auto)]
+
 ghost use Rattle.std.specs.Prelude.{◌≡◌};
 ghost use Rattle.mix_gain.specs.Mixed.{norm_sq_of, normalized_lerp_gain_of};
 

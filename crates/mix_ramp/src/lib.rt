@@ -1,4 +1,6 @@
 // The ramp: document 01, "The ramp and the mixed gain follow S"; source lines 585 to 602.
+#![tactic(auto)]
+
 ghost use Rattle.std.specs.Prelude.{◌≡◌, ◌+◌, ◌≤◌, min, max, length};
 ghost use mathlib.Core.List.{foldl};
 ghost use Rattle.lists.specs.Lists.{range, between};

@@ -1,5 +1,7 @@
 // The gains of a triplet in the places of a row: real points in their slots, imaginary ones shared among their neighbours. Source lines 550 to 572.
 // Origin of the numbers: document 01, "Returned numbers" (malformed): 80 triplets with 3 point numbers each, 240; 14 imaginary points (MAX_IMAGINARY, vbap.rs line 60) with 40 neighbours each, 560.
+#![tactic(auto)]
+
 ghost use Rattle.std.specs.Prelude.{◌≡◌, true, ◌≤◌, ◌<◌, min, leb, length, take};
 ghost use Rattle.lists.specs.Lists.{every};
 ghost use Rattle.row_fill.specs.Inner.Filling.{to_real, to_imag, is_real, real_points, imag_points, add_each, shared_by, shared_out, placed};

@@ -1,6 +1,8 @@
 // A row by the record: gains of a direction, for a panner of any kind. Document 01, "A row"; source lines 441 to 583.
 // Origin of the arrays' lengths: document 01, "Returned numbers" (malformed): 40 pairs, slots and real points, these with 3 numbers each, 120; 80 triplets with 3 point numbers each, 240, and an inverse of 9 numbers each, 720;
 // 14 imaginary points with 40 neighbours each, 560. Origin of 11: the same table.
+#![tactic(auto)]
+
 ghost use Rattle.std.specs.Prelude.{◌≡◌, true, map, ◌+◌, ◌*◌, ◌≤◌, min, leb, length, set, take, replicate};
 ghost use Rattle.lists.specs.Lists.{range, every};
 ghost use Rattle.float_order.specs.Values.{+0, 1·0};

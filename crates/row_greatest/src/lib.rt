@@ -1,6 +1,8 @@
 // The place of the greatest number of a list, the earlier of equals. A NaN is never chosen (theorem first-greatest-chosen).
 // Origin of 8: two vectors of four 32-bit floats, which the compiler compares at once. Any number serves: the promises do not depend on it.
 // Origin of -infinity, written -1.0 / 0.0: f32::NEG_INFINITY of vbap.rs lines 518 and 535, where nothing is chosen yet.
+#![tactic(auto)]
+
 ghost use Rattle.std.specs.Prelude.{◌≡◌, true, ◌+◌, ◌*◌, ◌%◌, ◌≤◌, length, take};
 ghost use Rattle.row_greatest.specs.Greatest.{first_greatest};
 ghost use Rattle.row_greatest.specs.Inner.Steps.{greater_of, Top, Lanes, passed, AllPassed, FirstKept};

@@ -1,6 +1,8 @@
 // A row of a hull: the triplet whose least gain is greatest, its gains in their slots, scaled to power 1. Document 01, "A row" (Hull); source lines 513 to 581.
 // Origin of the arrays' lengths: document 01, "Returned numbers" (malformed): 40 real points with 3 numbers each, 120; 80 triplets with 3 point numbers each, 240, and an inverse of 3 times 3 numbers each, 720;
 // 14 imaginary points with 40 neighbours each, 560. Entry e of the inverse of triplet t stands at e * 80 + t, so row r, three entries, starts at r * 240 + t, and the next entries are 80 and 160 further.
+#![tactic(auto)]
+
 ghost use Rattle.std.specs.Prelude.{◌≡◌, true, [], ◌∷◌, ◌≤◌, ◌<◌, leb, length, replicate};
 ghost use Rattle.std.specs.Float.{binary32};
 ghost use Rattle.lists.specs.Lists.{every, part};

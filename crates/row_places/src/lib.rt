@@ -1,4 +1,6 @@
 // The places of a row: a place beyond its end is none. Document 01, "A row"; source lines 460 to 583 (the source's `if slot < n`).
+#![tactic(auto)]
+
 ghost use Rattle.std.specs.Prelude.{◌≡◌, length, set, replicate};
 ghost use Rattle.float_order.specs.Values.{+0};
 ghost use Rattle.row_places.specs.Places.{add_at};

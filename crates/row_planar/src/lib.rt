@@ -1,5 +1,7 @@
 // A row of a planar layout: document 01, "A row" (Planar); source lines 80 to 93 and 460 to 511.
 // Origin of 40, the length of the arrays of pairs and slots: document 01, "Returned numbers" (malformed: pairs over 40, planar slots over 40).
+#![tactic(auto)]
+
 ghost use Rattle.std.specs.Prelude.{◌≡◌, ◌<◌, ◌≤◌, length, take, replicate};
 ghost use Rattle.float_order.specs.Values.{+0};
 ghost use Rattle.row_planar.specs.PlanarRow.{rel, contains, chosen, by_inverse, shaped, by_crossfade, by_law, planar_spread, spread_gain, spread_at, spread, pair_row, planar_row};
@@ -22,7 +24,7 @@ const TAU: f32 = 6.2831855;
 const FRAC_PI_2: f32 = 1.5707964;
 
 // The gains of a and b, before they are scaled.
-#[derive(Drop)]
+#[derive(Clone, Copy)]
 struct PairGains {
     ga: f32,
     gb: f32,

@@ -1,4 +1,6 @@
 // A session by value: placements that stand for each source, and the row from which its next render starts.
+#![tactic(auto)]
+
 ghost use Rattle.std.specs.Prelude.{◌≡◌, ◌<◌, ltb};
 ghost use Rattle.lists.specs.Lists.{any};
 ghost use Rattle.session_history.specs.Calls.{place, take_back, settle};
@@ -12,7 +14,7 @@ use mix_block::{SOURCES, Starts};
 use session_standing::{Count, Counts, DEPTH, Standing};
 
 // The counts and standing directions lie as crate session_standing says, the start rows as crate mix_block says.
-#[derive(Drop)]
+#[derive(Clone, Copy)]
 pub struct Session {
     pub panner: VbapPanner,
     pub sources: u8,
@@ -22,7 +24,7 @@ pub struct Session {
 }
 
 // What a call on a session answers: the session after it, and 0 or the refusal's number. The session stands first, so that it is copied as it lies.
-#[derive(Drop)]
+#[derive(Clone, Copy)]
 pub struct Answer {
     pub session: Session,
     pub number: u32,

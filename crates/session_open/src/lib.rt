@@ -1,4 +1,6 @@
 // Open: document 01, "Returned numbers" 1 to 4, and the fresh session of "Session".
+#![tactic(auto)]
+
 ghost use Rattle.std.specs.Prelude.{◌≡◌};
 ghost use Rattle.session_open.specs.Open.{fresh, refused_by, open_of};
 
@@ -8,7 +10,7 @@ use session_calls::Session;
 use session_standing::PLACES;
 
 // What `open` answers: 0 or the refusal's number, how many imaginary points were made, and the session.
-#[derive(Drop)]
+#[derive(Clone, Copy)]
 pub struct Opened {
     pub number: u32,
     pub imaginary: usize,

@@ -1,4 +1,6 @@
 // Render: document 01, "Session" ("Render: ..") and refusals 8 to 11.
+#![tactic(auto)]
+
 ghost use Rattle.std.specs.Prelude.{◌≡◌, false, ℕ, ◌+◌, ◌-◌, ◌*◌, ◌<◌, length, get_or};
 ghost use mathlib.Core.List.{flat_map};
 ghost use Rattle.std.specs.Float.{nan};

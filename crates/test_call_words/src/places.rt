@@ -22,7 +22,7 @@ fn lesser(a: usize, b: usize) -> usize
 }
 
 // The least place that may be listed next, and the words behind the last one.
-#[derive(Drop)]
+#[derive(Clone, Copy)]
 struct Listed {
     from: usize,
     walk: Walk,

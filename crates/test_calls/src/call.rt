@@ -9,7 +9,7 @@ use test_call_words::sums::{plus, plus_floats};
 use test_record_words::words::{Walk, at_end, read_float, read_whole};
 
 // How a call came out, the session after it, the sum of the answers so far, and its number; 12 where no call was made.
-#[derive(Drop)]
+#[derive(Clone, Copy)]
 pub struct Called {
     pub outcome: Outcome,
     pub session: Session,
@@ -18,7 +18,7 @@ pub struct Called {
 }
 
 // The number that a line ends with.
-#[derive(Drop)]
+#[derive(Clone, Copy)]
 struct Told {
     number: u64,
     good: bool,
@@ -158,7 +158,7 @@ pub fn settle(line: &[u8], w: Walk, s: Session, sum: u64) -> Called {
 // ---- render
 
 // The words of a render.
-#[derive(Drop)]
+#[derive(Clone, Copy)]
 struct Block {
     length: usize,
     samples: usize,

@@ -12,14 +12,14 @@ use test_record_words::speakers::{entries, positions};
 use test_record_words::words::{Walk, read_byte, read_whole};
 
 // What `open` answers on the arguments of a line, and the words behind them.
-#[derive(Drop)]
+#[derive(Clone, Copy)]
 pub struct OpenedHere {
     pub opened: Opened,
     pub walk: Walk,
 }
 
 // A session that a line gives, and the words behind it.
-#[derive(Drop)]
+#[derive(Clone, Copy)]
 pub struct GivenSession {
     pub session: Session,
     pub walk: Walk,

@@ -1,5 +1,7 @@
 // Replays lists of calls from standard input: opens sessions or takes them as they are given, makes each call, and compares its number, every output buffer and, at the end of a list, the whole session bit by bit.
 // It writes the first five lines that differ or are malformed, how many calls there were of each name and how often each number was answered, and how many lines differed.
+#![tactic(auto)]
+
 mod call;
 mod ending;
 mod given;
@@ -19,7 +21,7 @@ const SAMPLES: usize = 8200;
 const OUTPUTS: usize = 41000;
 
 // How a line came out: where it differs, what was answered, at which place.
-#[derive(Drop)]
+#[derive(Clone, Copy)]
 pub enum Outcome {
     Same,
     Number(u32),
@@ -34,7 +36,7 @@ pub enum Outcome {
 }
 
 // The session, the sum of what the calls of the list answered, whether a list has begun, and how many lines differ so far.
-#[derive(Drop)]
+#[derive(Clone, Copy)]
 struct Held {
     session: Session,
     sum: u64,

@@ -5,7 +5,7 @@ use test_lines::values::{Form, Value, double, pattern32, pattern64, single};
 pub const COUNT: usize = 27;
 
 // One or two arguments of one form, and one or two results of another.
-#[derive(Drop)]
+#[derive(Clone, Copy)]
 pub struct Shape {
     pub args: usize,
     pub from: Form,
@@ -14,7 +14,7 @@ pub struct Shape {
 }
 
 // What a function answered; a second result that it does not have is 0.
-#[derive(Drop)]
+#[derive(Clone, Copy)]
 pub struct Answer {
     pub first: Value,
     pub second: Value,

@@ -1,5 +1,7 @@
 // Replays a list of cases from standard input: computes each with the functions of the float_ crates, and compares bit by bit.
 // It writes the first five lines that differ or are malformed, how many cases there were of each function, and how many differed.
+#![tactic(auto)]
+
 mod functions;
 mod report;
 
@@ -9,7 +11,7 @@ use test_lines::values::{Form, Taken, Value, agree, bits_of, take};
 use test_lines::{Cursor, is_end, lines, named};
 
 // How a case came out: the function's place, and where the answer differs what it was.
-#[derive(Drop)]
+#[derive(Clone, Copy)]
 enum Outcome {
     Same(usize),
     Differs {

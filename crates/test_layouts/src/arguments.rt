@@ -5,7 +5,7 @@ use test_lines::Cursor;
 use test_lines::values::{Form, bits_of, single, take};
 
 // A list that was read: how many numbers it has, whether each has its form, and where the next word starts.
-#[derive(Drop)]
+#[derive(Clone, Copy)]
 pub struct Given {
     pub count: usize,
     pub good: bool,

@@ -1,5 +1,7 @@
 // Replays a list of layouts from standard input: makes each with `layout_new::new`, and compares every field bit by bit.
 // It writes the first five lines that differ or are malformed, how many cases there were, and how many differed.
+#![tactic(auto)]
+
 mod arguments;
 mod fields;
 mod record;
@@ -15,7 +17,7 @@ use test_lines::{Cursor, lines, named};
 use walk::Walk;
 
 // How many cases there were, and how many differ.
-#[derive(Drop)]
+#[derive(Clone, Copy)]
 struct Counts {
     cases: u64,
     differences: u64,

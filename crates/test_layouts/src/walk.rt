@@ -5,7 +5,7 @@ use test_lines::values::{Form, Value, agree, pattern32, take};
 use test_lines::{Cursor, is_end};
 
 // Where the next word starts, and the first field that differs.
-#[derive(Drop)]
+#[derive(Clone, Copy)]
 pub struct Walk {
     pub next: Cursor,
     pub fault: u32,

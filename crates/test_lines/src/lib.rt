@@ -1,6 +1,8 @@
 // A list of cases: lines of words, read from a descriptor into a lent buffer. docs/CASES.md has the format.
 //
 // A line is a part of the buffer, and a cursor by value goes from word to word of it.
+#![tactic(auto)]
+
 pub mod lines;
 pub mod report;
 pub mod values;
@@ -9,13 +11,13 @@ ghost use Rattle.std.specs.Prelude.{◌≡◌, ◌+◌, drop};
 ghost use Rattle.test_lines.specs.Words.{digit_of, number_of, span_to, same_of, is_name_byte, all_name, kind_of, word_at};
 
 // Where the next word of a line starts: past the line's end where there is none.
-#[derive(Drop)]
+#[derive(Clone, Copy)]
 pub struct Cursor {
     pub at: usize,
 }
 
 // What a word is.
-#[derive(Drop)]
+#[derive(Clone, Copy)]
 pub enum Word {
     // the value of its hexadecimal digits, and how many there are
     Number(u64, usize),
@@ -26,13 +28,13 @@ pub enum Word {
     Bad,
 }
 
-#[derive(Drop)]
+#[derive(Clone, Copy)]
 pub struct Step {
     pub word: Word,
     pub next: Cursor,
 }
 
-#[derive(Drop)]
+#[derive(Clone, Copy)]
 pub enum Parsed {
     Value(u64),
     Not,
@@ -210,7 +212,7 @@ fn place_of(names: &[u8], name: &[u8]) -> usize {
 }
 
 // The place of a line's first word in such a list, past the last where it is none of them, and where the next word starts.
-#[derive(Drop)]
+#[derive(Clone, Copy)]
 pub struct FirstWord {
     pub place: usize,
     pub next: Cursor,

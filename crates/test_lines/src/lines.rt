@@ -8,7 +8,7 @@ use crate::values::byte_at;
 pub type Buffer = [u8; 65536];
 
 // The case at hand, and what is left to read behind it.
-#[derive(Drop)]
+#[derive(Clone, Copy)]
 pub struct Lines {
     // a part of the buffer, with no line end, and the number of its line
     pub from: usize,

@@ -7,7 +7,7 @@ ghost use Rattle.test_lines.specs.Values.{is_float, has_form, refused_at, taken_
 use crate::{Cursor, Word};
 
 // What a word has to be: the pattern of an f32 or of an f64, a whole number, or 0 or 1.
-#[derive(Drop)]
+#[derive(Clone, Copy)]
 pub enum Form {
     Single,
     Double,
@@ -16,14 +16,14 @@ pub enum Form {
 }
 
 // What a word says, or what a function answered.
-#[derive(Drop)]
+#[derive(Clone, Copy)]
 pub enum Value {
     Bits(u64),
     Nan,
 }
 
 // What stands at a cursor: whether it has the form that was asked, and where the next word starts.
-#[derive(Drop)]
+#[derive(Clone, Copy)]
 pub struct Taken {
     pub good: bool,
     pub value: Value,

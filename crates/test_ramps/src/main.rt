@@ -1,5 +1,7 @@
 // Replays a list of ramps and mixed gains from standard input: computes each with `mix_ramp::ramp_add` and `mix_gain::normalized_lerp_gain`, and compares bit by bit.
 // It writes the first five lines that differ or are malformed, how many cases there were of each function, and how many differed.
+#![tactic(auto)]
+
 mod arguments;
 mod report;
 mod results;
@@ -11,7 +13,7 @@ use test_lines::report::is_shown;
 use test_lines::{Cursor, lines, named};
 
 // How many cases there were of each function, and how many lines differ.
-#[derive(Drop)]
+#[derive(Clone, Copy)]
 struct Counts {
     ramps: u64,
     mixes: u64,

@@ -5,7 +5,7 @@ use test_lines::values::{Form, Value, agree, pattern32, take};
 use test_lines::{Cursor, is_end};
 
 // How a case came out: where a sample differs its place, and what was answered there.
-#[derive(Drop)]
+#[derive(Clone, Copy)]
 pub enum Outcome {
     Same,
     Differs(usize, Value),
@@ -13,7 +13,7 @@ pub enum Outcome {
 }
 
 // Whether each word has its form, the first place that differs, or how many there are, and where the next word starts.
-#[derive(Drop)]
+#[derive(Clone, Copy)]
 struct Found {
     good: bool,
     place: usize,

@@ -5,7 +5,7 @@ use crate::words::{Byte, Walk, read_byte, read_float, size};
 use layout_planar::{Law, PlanarPair};
 use layout_record::{Kind, VbapPanner};
 
-#[derive(Drop)]
+#[derive(Clone, Copy)]
 pub struct Record {
     pub panner: VbapPanner,
     pub walk: Walk,
@@ -13,19 +13,19 @@ pub struct Record {
 
 // ---- planar
 
-#[derive(Drop)]
+#[derive(Clone, Copy)]
 struct LawRead {
     law: Law,
     walk: Walk,
 }
 
-#[derive(Drop)]
+#[derive(Clone, Copy)]
 struct PairRead {
     pair: PlanarPair,
     walk: Walk,
 }
 
-#[derive(Drop)]
+#[derive(Clone, Copy)]
 struct PairsRead {
     pairs: [PlanarPair; 40],
     count: u8,

@@ -5,25 +5,25 @@ use test_lines::values::{Form, bits_of, single, take};
 use test_lines::{Cursor, is_end};
 
 // Where the next word starts, and whether the words before it are as they have to be.
-#[derive(Drop)]
+#[derive(Clone, Copy)]
 pub struct Walk {
     pub next: Cursor,
     pub good: bool,
 }
 
-#[derive(Drop)]
+#[derive(Clone, Copy)]
 pub struct Whole {
     pub value: u64,
     pub walk: Walk,
 }
 
-#[derive(Drop)]
+#[derive(Clone, Copy)]
 pub struct Byte {
     pub value: u8,
     pub walk: Walk,
 }
 
-#[derive(Drop)]
+#[derive(Clone, Copy)]
 pub struct Float {
     pub value: f32,
     pub walk: Walk,

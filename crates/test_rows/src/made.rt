@@ -6,7 +6,7 @@ use test_record_words::speakers::{entries, positions};
 use test_record_words::words::Walk;
 
 // What was made, and the words behind it.
-#[derive(Drop)]
+#[derive(Clone, Copy)]
 pub struct Made {
     pub made: NewPanner,
     pub walk: Walk,

@@ -1,5 +1,7 @@
 // Replays a list of rows from standard input: sets layouts, asks each row with `gains` and each count with `num_outputs`, and compares bit by bit.
 // It writes the first five lines that differ or are malformed, how many lines there were of each name, and how many differed.
+#![tactic(auto)]
+
 mod made;
 mod report;
 mod row;
@@ -12,7 +14,7 @@ use test_record_words::words::Walk;
 use test_record_words::{record, words};
 
 // How a case came out: where it differs, the number, the count or the first place that does, and what was answered.
-#[derive(Drop)]
+#[derive(Clone, Copy)]
 pub enum Outcome {
     Same,
     Number(u32),
@@ -22,14 +24,14 @@ pub enum Outcome {
 }
 
 // The layout that a line sets.
-#[derive(Drop)]
+#[derive(Clone, Copy)]
 struct Setting {
     outcome: Outcome,
     panner: VbapPanner,
 }
 
 // The layout that was set last, and how many lines differ so far.
-#[derive(Drop)]
+#[derive(Clone, Copy)]
 struct Held {
     panner: VbapPanner,
     differences: u64,

@@ -60,7 +60,7 @@ fn before_listed(want: &mut [u64; 43], n: usize) {
 }
 
 // A place that was listed, and the words behind its gain.
-#[derive(Drop)]
+#[derive(Clone, Copy)]
 struct Listed {
     place: usize,
     walk: Walk,

@@ -1,1 +1,2 @@
 // Demand 3: one theorem about two whole lists of calls, and no code.
+#![tactic(auto)]

@@ -1,10 +1,12 @@
 // Vectors of three numbers: directions and the points of a hull.
+#![tactic(auto)]
+
 ghost use Rattle.std.specs.Prelude.{◌≡◌, ◌<◌};
 ghost use Rattle.vector.specs.Vector.{dot_of, cross_of, less_of, over_of, negated_of, length_of, dir_vec_of, point_in};
 ghost use Rattle.vector.specs.Inner.Unit.{unit_in};
 
 // A position as a direction, where it has one; +0 throughout where not.
-#[derive(Drop)]
+#[derive(Clone, Copy)]
 pub struct Direction {
     pub accepted: bool,
     pub dir: [f64; 3],

@@ -1,0 +1,7 @@
+-- `boundary_exports::layouts::panner_gains` meets its contract: the row of the record that was taken in. Assumes nothing.
+use Rattle.boundary_exports.proofs.layouts.panner_gains.Goals as goal
+
+pub returns : goal.returns
+returns c =
+    let g = c.gains.ensures in
+    rw (← c.taken_in-p.ensures) (g.0, g.1)

@@ -1,0 +1,26 @@
+-- `boundary_exports::layouts::panner_new` meets its contract: a refusal writes nothing, and an accepted call the record that it answers. Assumes nothing.
+use mathlib.Core.Path.{refl, sym}
+use borrow.Author.Tests.{ne_eqb}
+use Rattle.boundary_records.specs.Places.{record_byte_places, record_float_places}
+use Rattle.boundary_records.specs.Records.{record_bytes, record_floats}
+use Rattle.boundary_records.proofs.Laid.{laid_all}
+use Rattle.boundary_exports.proofs.layouts.panner_new.Goals as goal
+
+pub returns-then-why-ne0 : goal.returns-then-why-ne0
+returns-then-why-ne0 c = rw (← c.new-made.ensures, ne_eqb _ _ c.if-why-ne0.true) (refl, (refl, (refl, refl)))
+
+pub returns : goal.returns
+returns c =
+    let h = c.hand_out.ensures in
+    let a = c.args in
+    let p = c.new-made.result.panner in
+    rw (← c.new-made.ensures) (
+      sym c.if-why-ne0.false,
+      (
+        refl,
+        (
+          laid_all (record_bytes p) a.bytes.now record_byte_places c.hand_out-arg-1.given.0.1 h.0,
+          laid_all (record_floats p) a.floats.now record_float_places c.hand_out-arg-2-1.given.0.1 h.1.0,
+        ),
+      ),
+    )

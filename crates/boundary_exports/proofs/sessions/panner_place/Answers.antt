@@ -1,0 +1,12 @@
+-- `boundary_exports::sessions::panner_place` meets its contract: the arrays hold what the call left. Assumes nothing.
+use Rattle.session_calls.specs.declared.Session.{Session}
+use Rattle.session_history.specs.Calls.{place}
+use Rattle.session_calls.specs.Answers.{answer_of}
+use Rattle.boundary_exports.proofs.Answered.{left}
+use Rattle.boundary_exports.proofs.sessions.panner_place.Goals as goal
+
+pub returns : goal.returns
+returns c =
+    let given = c.args in
+    let l = c.leave.ensures in
+    left given.bytes.now given.floats.now (λ (s : Session). answer_of s (place given.source given.az given.el)) c.taken_in-s.ensures c.place-r.ensures l.0 l.1.0 l.1.1

@@ -1,0 +1,12 @@
+-- `boundary_exports::sessions::panner_take_back` meets its contract: the arrays hold what the call left. Assumes nothing.
+use Rattle.session_calls.specs.declared.Session.{Session}
+use Rattle.session_history.specs.Calls.{take_back}
+use Rattle.session_calls.specs.Answers.{answer_of}
+use Rattle.boundary_exports.proofs.Answered.{left}
+use Rattle.boundary_exports.proofs.sessions.panner_take_back.Goals as goal
+
+pub returns : goal.returns
+returns c =
+    let given = c.args in
+    let l = c.leave.ensures in
+    left given.bytes.now given.floats.now (λ (s : Session). answer_of s (take_back given.source)) c.taken_in-s.ensures c.take_back-r.ensures l.0 l.1.0 l.1.1

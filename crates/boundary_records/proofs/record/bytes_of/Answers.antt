@@ -1,0 +1,30 @@
+use Prim.Native.Nat.{◌-◌, min}
+use mathlib.Core.Path.{◌≡◌, refl}
+use mathlib.Core.List.{flat_map}
+use lib.ListN.{length-set}
+use Rattle.boundary_records.specs.Places.{most_outputs, pair_byte_places}
+use Rattle.boundary_records.specs.Records.{pair_bytes}
+use Rattle.lists.proofs.Filled.{gathered_none}
+use Rattle.boundary_records.proofs.Pairs.{bytes_more}
+use native.Mathlib.Omega.{arith}
+use Rattle.boundary_records.proofs.record.bytes_of.Goals as goal
+
+pub loop-i-init : goal.loop-i-init
+unfolding flat_map
+loop-i-init c = (omega arith, omega arith, refl, c.well_formed.0.1.0.1, gathered_none pair_byte_places 0)
+
+pub loop-i-preserved : goal.loop-i-preserved
+loop-i-preserved c =
+    let l = c.loop-i in (
+      omega arith,
+      omega arith,
+      simp length-set (omega arith),
+      l.invariant.3,
+      bytes_more c.args.t1 l.to l.i _ _ (omega arith) (omega arith) c.law_number.ensures l.invariant.4,
+    )
+
+pub returns : goal.returns
+unfolding pair_bytes
+returns c =
+    let e : min c.args.n most_outputs ≡ c.loop-i.i = omega arith in
+    rw e c.loop-i.invariant.4.holds

@@ -1,0 +1,32 @@
+use Prim.Native.Nat.{◌-◌, min}
+use mathlib.Core.Path.{◌≡◌, refl}
+use mathlib.Core.List.{flat_map}
+use lib.Ieee.{of_bits}
+use lib.ListN.{length-set}
+use Rattle.boundary_records.specs.Places.{most_outputs, pair_float_places}
+use Rattle.boundary_records.specs.Records.{pair_numbers}
+use Rattle.lists.proofs.Filled.{gathered_none}
+use Rattle.float_order.specs.Values.{+0}
+use Rattle.boundary_records.proofs.Pairs.{numbers_more}
+use native.Mathlib.Omega.{arith}
+use Rattle.boundary_records.proofs.record.numbers_of.Goals as goal
+
+pub loop-i-init : goal.loop-i-init
+unfolding flat_map of_bits
+loop-i-init c = (omega arith, omega arith, refl, c.well_formed.0.1.0.1, gathered_none pair_float_places +0)
+
+pub loop-i-preserved : goal.loop-i-preserved
+loop-i-preserved c =
+    let l = c.loop-i in (
+      omega arith,
+      omega arith,
+      simp length-set (omega arith),
+      l.invariant.3,
+      numbers_more c.args.t1 l.to l.i _ _ (omega arith) (omega arith) c.law_numbers-v.ensures l.invariant.4,
+    )
+
+pub returns : goal.returns
+unfolding pair_numbers
+returns c =
+    let e : min c.args.n most_outputs ≡ c.loop-i.i = omega arith in
+    rw e c.loop-i.invariant.4.holds

@@ -1,0 +1,16 @@
+-- `boundary_records::sessions::hand_out` meets its contract: the record, and behind it the session's own part. Assumes nothing.
+use Rattle.boundary_records.specs.Places.{record_byte_places, record_float_places}
+use Rattle.boundary_records.specs.Records.{record_bytes, record_floats}
+use Rattle.boundary_records.specs.Sessions.{own_bytes, own_floats, session_bytes, session_floats}
+use Rattle.boundary_records.proofs.Laid.{whole_of}
+use Rattle.boundary_records.proofs.sessions.hand_out.Goals as goal
+
+pub returns : goal.returns
+unfolding session_bytes session_floats
+returns c =
+    let o = c.hand_out_own.ensures in
+    let h = c.hand_out.ensures in
+    let a = c.args in (
+      whole_of (record_bytes a.s.panner) (own_bytes a.s) a.bytes.now record_byte_places h.1.1.0 h.0 o.0,
+      whole_of (record_floats a.s.panner) (own_floats a.s) a.floats.now record_float_places h.1.1.1 h.1.0 o.1,
+    )

@@ -1,0 +1,7 @@
+-- `boundary_records::sessions::put_counts` meets its contract: its copies, one after another. Assumes nothing.
+use Rattle.boundary_records.proofs.Pasted.{two_pasted}
+use borrow.Author.Rules.{rules}
+use Rattle.boundary_records.proofs.sessions.put_counts.Goals as goal
+
+pub returns : goal.returns
+returns c = (two_pasted c.copy_bytes.ensures c.copy_bytes-2.ensures, (search rules))

@@ -1,0 +1,14 @@
+-- `float_arctangent::with_sign_of_y` meets its contract: the branch goes by the sign bit, as the definition does. Assumes nothing.
+use mathlib.Core.Path.{sym, ◌∙◌}
+use lib.Ieee.{neg}
+use Rattle.lists.proofs.Tests.{cond_yes, cond_no}
+use Rattle.float_arctangent.specs.Arctangent.{with_sign_of_y}
+use Rattle.float_arctangent.proofs.with_sign_of_y.Goals as goal
+
+pub returns-then-sign_bit64 : goal.returns-then-sign_bit64
+unfolding with_sign_of_y
+returns-then-sign_bit64 c = let y = c.args.y in let b = c.args.b in sym (cond_yes (neg b) b (sym c.sign_bit64.ensures ∙ c.if-sign_bit64.true))
+
+pub returns : goal.returns
+unfolding with_sign_of_y
+returns c = let y = c.args.y in let b = c.args.b in sym (cond_no (neg b) b (sym c.sign_bit64.ensures ∙ c.if-sign_bit64.false))

@@ -1,0 +1,22 @@
+-- `float_order::rem_euclid64` meets its contract: a value between the modulus and its negative is its own remainder. Assumes nothing.
+use mathlib.Core.Path.{sym, ap, ◌∙◌, subst}
+use mathlib.Core.Bool.{cond}
+use lib.Dec.{T}
+use lib.Ieee.{Float, binary64, add, neg, lt}
+use Rattle.float_order.specs.Values.{+0}
+use Rattle.float_order.specs.Remainder.{rem_euclid_of}
+use Rattle.float_order.proofs.Remainder.{both_left, both_right, rem_inside}
+use Rattle.float_order.proofs.rem_euclid64.Goals as goal
+
+pub returns-then-x-m : goal.returns-then-x-m
+unfolding rem_euclid_of
+returns-then-x-m c =
+    let x = c.args.x in
+    let m = c.args.m in
+    let t = c.if-x-m.true in
+    c.raised64.ensures
+    ∙ ap (λ (r : Float). cond (lt r +0) (add binary64 r m) r) (rem_inside binary64 x m (subst T (sym c.well_formed.0.1) tt) (both_left (lt x m) (lt (neg m) x) t) (both_right (lt x m) (lt (neg m) x) t))
+
+pub returns : goal.returns
+unfolding rem_euclid_of
+returns c = c.raised64-2.ensures

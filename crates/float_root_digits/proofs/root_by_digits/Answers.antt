@@ -1,0 +1,110 @@
+use Rattle.std.proofs.Common.{◌≡◌, ℕ, suc, ◌+◌, ◌-◌, ◌*◌, ◌/◌, ◌%◌, ◌^◌, ◌<◌, ◌≤◌, sym, ap, ◌∙◌, subst, subst₂, ⊎_elim, lt_of_lt_of_le, le_of_suc-le-suc, mul_assoc, mul_comm, pow-suc, zero-add, mul-one, add-one, arith, pow_mono}
+use Rattle.float_root_digits.proofs.Squares.{sq_suc, sq_twice, sq_lt}
+use Rattle.float_root_digits.proofs.root_by_digits.Goals as goal
+
+record Inv (m left root rem i : ℕ) : Type 0 where
+  turns : i ≤ 55
+  short : root < 2 ^ i
+  rest : rem ≤ 2 * root
+  word : left < 2 ^ 64
+  digits : (root * root + rem) * 2 ^ 64 + left ≡ m * 4 ^ i
+
+-- one turn: the number gets two digits more
+more : (m left s rem i S : ℕ) → (s + rem) * 2 ^ 64 + left ≡ m * 4 ^ i → S ≡ 4 * s + (rem * 4 + left / 2 ^ 62) → S * 2 ^ 64 + left % 2 ^ 62 * 4 ≡ m * 4 ^ (i + 1)
+more m left s rem i S e f =
+    let g : m * 4 ^ (i + 1) ≡ m * 4 ^ i * 4 = ap (λ (x : ℕ). m * 4 ^ x) (add-one i) ∙ ap (λ (x : ℕ). m * x) (pow-suc 4 i) ∙ sym (mul_assoc m (4 ^ i) 4) in
+    omega arith
+
+twice : (i : ℕ) → 2 ^ (i + 1) ≡ 2 * 2 ^ i
+twice i = ap (λ (x : ℕ). 2 ^ x) (add-one i) ∙ pow-suc 2 i ∙ mul_comm (2 ^ i) 2
+
+module _ (m left root rem i : ℕ) (v : Inv m left root rem i) (h : i < 55) where
+  low : root < 2 ^ 54
+  low = lt_of_lt_of_le v.short (pow_mono (le_of_suc-le-suc h))
+
+  step-one : root * 2 * 2 < rem * 4 + left / 2 ^ 62 → Inv m (left % 2 ^ 62 * 4) (root * 2 + 1) (rem * 4 + left / 2 ^ 62 - (root * 2 * 2 + 1)) (i + 1)
+  step-one g =
+      let a = v.short in
+      let b = v.rest in
+      let w = v.word in
+      let t = twice i in
+      let e : (root * 2 + 1) * (root * 2 + 1) ≡ 4 * (root * root) + 4 * root + 1 = ap (λ (x : ℕ). x * x) (next root) ∙ sq_suc (2 * root) ∙ sums root (2 * root * (2 * root)) (root * root) (sq_twice root) in
+      record {
+        turns = omega arith;
+        short = omega arith;
+        rest = omega arith;
+        word = omega arith;
+        digits = more m left (root * root) rem i ((root * 2 + 1) * (root * 2 + 1) + (rem * 4 + left / 2 ^ 62 - (root * 2 * 2 + 1))) v.digits (omega arith);
+      }
+    where
+      next : (r : ℕ) → r * 2 + 1 ≡ suc (2 * r)
+      next r = omega arith
+
+      sums : (r a b : ℕ) → a ≡ 4 * b → a + 2 * (2 * r) + 1 ≡ 4 * b + 4 * r + 1
+      sums r a b e = omega arith
+
+  step-none : rem * 4 + left / 2 ^ 62 ≤ root * 2 * 2 → Inv m (left % 2 ^ 62 * 4) (root * 2) (rem * 4 + left / 2 ^ 62) (i + 1)
+  step-none g =
+      let a = v.short in
+      let b = v.rest in
+      let w = v.word in
+      let t = twice i in
+      let e : root * 2 * (root * 2) ≡ 4 * (root * root) = ap (λ (x : ℕ). x * x) (mul_comm root 2) ∙ sq_twice root in
+      record {
+        turns = omega arith;
+        short = omega arith;
+        rest = omega arith;
+        word = omega arith;
+        digits = more m left (root * root) rem i (root * 2 * (root * 2) + (rem * 4 + left / 2 ^ 62)) v.digits (omega arith);
+      }
+
+-- after 55 turns every digit is taken
+done : (s m left : ℕ) → left < 2 ^ 64 → s * 2 ^ 64 + left ≡ m * 4 ^ 55 → m * 2 ^ 46 ≡ s
+done s m left w e = omega arith
+
+large : (m root rem : ℕ) → 2 ^ 62 ≤ m → m * 2 ^ 46 ≡ root * root + rem → rem ≤ 2 * root → 2 ^ 54 ≤ root
+large m root rem a e r = let k = sq_suc root in le_of_suc-le-suc (sq_lt (2 ^ 54) (suc root) (omega arith))
+
+pub loop-i-init : goal.loop-i-init
+loop-i-init c =
+    let a = c.ranges.m.fits in
+    record { turns = omega arith; short = omega arith; rest = omega arith; word = omega arith; digits = zero-add c.args.m ∙ sym (mul-one c.args.m) }
+
+pub overflow_mul-rem : goal.overflow_mul-rem
+overflow_mul-rem c = let k = low _ _ _ _ _ c.loop-i.invariant c.loop-i-test.true in let b = c.loop-i.invariant.rest in omega arith
+
+pub overflow_add-rem : goal.overflow_add-rem
+overflow_add-rem c = let k = low _ _ _ _ _ c.loop-i.invariant c.loop-i-test.true in let b = c.loop-i.invariant.rest in let w = c.loop-i.invariant.word in omega arith
+
+pub overflow_mul-root : goal.overflow_mul-root
+overflow_mul-root c = let k = low _ _ _ _ _ c.loop-i.invariant c.loop-i-test.true in omega arith
+
+pub overflow_mul-root-in-loop-i : goal.overflow_mul-root-in-loop-i
+overflow_mul-root-in-loop-i c = let k = low _ _ _ _ _ c.loop-i.invariant c.loop-i-test.true in omega arith
+
+pub overflow_mul-rem-then-root-rem : goal.overflow_mul-rem-then-root-rem
+overflow_mul-rem-then-root-rem c = let k = low _ _ _ _ _ c.loop-i.invariant c.loop-i-test.true in omega arith
+
+pub overflow_add-rem-then-root-rem : goal.overflow_add-rem-then-root-rem
+overflow_add-rem-then-root-rem c = let k = low _ _ _ _ _ c.loop-i.invariant c.loop-i-test.true in omega arith
+
+pub overflow_add-root : goal.overflow_add-root
+overflow_add-root c = let k = low _ _ _ _ _ c.loop-i.invariant c.loop-i-test.true in omega arith
+
+pub loop-i-preserved : goal.loop-i-preserved
+loop-i-preserved c =
+    let m = c.args.m in
+    let p : ℕ → ℕ → Type 0 = λ x y. Inv m (c.loop-i.left % 2 ^ 62 * 4) x y (c.loop-i.i + 1) in
+    ⊎_elim
+    (λ w. subst₂ p (sym w.1) (sym w.2) (step-one m c.loop-i.left c.loop-i.root c.loop-i.rem c.loop-i.i c.loop-i.invariant c.loop-i-test.true w.0.taken))
+    (λ w. subst₂ p (sym w.1) (sym w.2) (step-none m c.loop-i.left c.loop-i.root c.loop-i.rem c.loop-i.i c.loop-i.invariant c.loop-i-test.true w.0.left))
+    c.if-root-rem.branch
+
+pub returns : goal.returns
+returns c =
+    let v = c.loop-i.invariant in
+    let m = c.args.m in
+    let n : c.loop-i.i ≡ 55 = let t = v.turns in omega arith in
+    let e : m * 2 ^ 46 ≡ c.loop-i.root * c.loop-i.root + c.loop-i.rem =
+    done (c.loop-i.root * c.loop-i.root + c.loop-i.rem) m c.loop-i.left v.word (v.digits ∙ ap (λ (x : ℕ). m * 4 ^ x) n) in
+    (e, v.rest, large m c.loop-i.root c.loop-i.rem c.requires e v.rest, subst (λ (x : ℕ). c.loop-i.root < 2 ^ x) n v.short)

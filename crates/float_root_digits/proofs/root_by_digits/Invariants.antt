@@ -1,0 +1,9 @@
+-- `float_root_digits::root_by_digits` meets its contract. After i turns `root` is the whole root of m * 4 ^ i / 2 ^ 64, `rem` is what is left of that number, and `left` holds the digits that are not taken yet. Assumes nothing.
+use Rattle.std.proofs.Common.{◌-◌}
+use Rattle.float_root_digits.proofs.root_by_digits.Given as goal
+
+abbrev pub invariant-loop-i : goal.invariant-loop-i
+invariant-loop-i l = Inv l.m l.left l.root l.rem l.i
+
+abbrev pub decreases-loop-i : goal.decreases-loop-i
+decreases-loop-i l = 55 - l.i

@@ -1,0 +1,12 @@
+-- `float_sine::sin_cos32` meets its contract: widened, computed, narrowed. Assumes nothing.
+use Rattle.std.proofs.Common.{ap, ◌∙◌}
+use Rattle.float_widths.specs.Narrow.{narrow_of}
+use Rattle.float_sine.specs.Sine.{sin_of, cos_of, sin32_of, cos32_of}
+use Rattle.float_sine.proofs.sin_cos32.Goals as goal
+
+pub returns : goal.returns
+unfolding sin32_of cos32_of
+returns c =
+    let p = c.sin_cos-t.ensures in
+    let w = c.widen.ensures in
+    (c.narrow.ensures ∙ ap narrow_of (p.0 ∙ ap sin_of w), c.narrow-2.ensures ∙ ap narrow_of (p.1 ∙ ap cos_of w))

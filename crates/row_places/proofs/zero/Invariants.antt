@@ -1,0 +1,13 @@
+-- `row_places::zero` meets its contract. The invariant: +0 in the places before i, and the row's own after. Assumes nothing.
+use Prim.Native.Nat.{◌≤◌, ◌-◌}
+use mathlib.Core.Path.{◌≡◌}
+use mathlib.Core.List.{◌++◌}
+use lib.ListN.{length, drop, replicate}
+use Rattle.float_order.specs.Values.{+0}
+use Rattle.row_places.proofs.zero.Given as goal
+
+abbrev pub invariant-loop-i : goal.invariant-loop-i
+invariant-loop-i l = (l.i ≤ length l.initial.row) × (length l.row ≡ length l.initial.row) × (l.row ≡ replicate l.i +0 ++ drop l.i l.initial.row)
+
+abbrev pub decreases-loop-i : goal.decreases-loop-i
+decreases-loop-i l = length l.initial.row - l.i

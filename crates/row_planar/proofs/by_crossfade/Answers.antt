@@ -1,0 +1,13 @@
+-- `row_planar::by_crossfade` meets its contract: the operations are the definition's, in its order. Assumes nothing.
+use Rattle.std.proofs.Common.{refl, ◌∙◌}
+use lib.Ieee.{of_bits}
+use Rattle.row_planar.specs.PlanarRow.{by_crossfade}
+use Rattle.row_planar.proofs.by_crossfade.Goals as goal
+
+pub returns : goal.returns
+unfolding by_crossfade of_bits
+returns c =
+    let t = c.sin_cos32-t.ensures in
+    let s = c.shape.ensures in
+    let k = c.clamp.ensures in
+    (c.max32.ensures ∙ rw (t.1, s, k) refl, c.max32-2.ensures ∙ rw (t.0, s, k) refl)

@@ -1,0 +1,40 @@
+-- `session_render::render` meets its contract: a refusal leaves session and buffer, and else the new start rows and the mix are the definition's. Assumes nothing.
+use mathlib.Core.Path.{refl, sym, ◌∙◌}
+use Rattle.session_calls.proofs.Refusals.{formed}
+use Rattle.session_calls.proofs.Answers.{refused_as}
+use Rattle.session_render.proofs.Numbers.{Admitted, admitted, outputs_low}
+use Rattle.session_render.proofs.Mixing.{mix_same}
+use Rattle.session_render.proofs.Answers.{buffer_refused, render_done, buffer_done}
+use Rattle.session_render.proofs.render.Goals as goal
+use Rattle.session_render.proofs.render.Goals.{Else-why-ne0}
+
+passed : (c : Else-why-ne0)
+    → let s = c.args in
+    Admitted s.s s.block s.samples.now s.outputs.now
+passed c = admitted _ _ _ _ (sym c.refusal-why.ensures ∙ c.if-why-ne0.false)
+
+pub returns-then-why-ne0 : goal.returns-then-why-ne0
+returns-then-why-ne0 c =
+    let s = c.args in
+    let w = c.refusal-why.ensures in
+    (refused_as _ _ w c.if-why-ne0.true, buffer_refused s.s s.block s.samples.now s.outputs.now w c.if-why-ne0.true)
+
+pub new_starts-to-requires : goal.new_starts-to-requires
+new_starts-to-requires c = ((passed (goal.at.new_starts-to-requires c).Else-why-ne0).formed, refl)
+
+pub mix-requires : goal.mix-requires
+mix-requires c =
+    let p = passed (goal.at.mix-requires c).Else-why-ne0 in
+    let s = c.args.s in
+    (outputs_low s p.formed, (formed s p.formed).few, p.sampled, p.lent)
+
+pub returns : goal.returns
+returns c =
+    let s = c.args in
+    let w = c.refusal-why.ensures in
+    let n = c.new_starts-to in (
+      render_done s.s s.block s.samples.now s.outputs.now w c.if-why-ne0.false n.ensures.0 c.with_starts.ensures,
+      c.mix.ensures
+          ∙ mix_same s.s s.block s.samples.now n.result (outputs_low s.s (passed (goal.at.returns c).Else-why-ne0).formed) n.ensures.1 s.outputs.now
+          ∙ buffer_done s.s s.block s.samples.now s.outputs.now w c.if-why-ne0.false,
+    )
