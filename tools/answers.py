@@ -44,7 +44,7 @@ def functions(crate):
                     part = part.strip()
                     if ":" in part:
                         name, ty = part.split(":", 1)
-                        params.append((name.replace("mut ", "").strip(), ty.strip().startswith("&")))
+                        params.append((name.replace("mut ", "").strip(), ty.strip().startswith("&"), bool(re.match(r"&\s*('\w+\s+)?mut\b", ty.strip()))))
                 # clauses up to the body
                 rest = t[i:]
                 ens, req = [], []
@@ -87,6 +87,7 @@ class Function:
         self.loops = {}
         for (names, vars_), changed in zip(data["loops"], data["changed"]):
             self.loops[norm(names[0])] = (names[1], vars_, changed)
+        self.wants = {}
         self.me = function(f"{crate}::{name.replace('.', '::')}")
 
     def place_at(self, old, ups):
@@ -97,9 +98,12 @@ class Function:
         return old
 
     def param(self, word):
-        for n, ref in self.me[0] if self.me else []:
+        for n, *_ in self.me[0] if self.me else []:
             if norm(n) == norm(word):
                 return n
+        numbered = re.fullmatch(r"t(\d+)", word)  # an array by value had the number of its local
+        if numbered and self.me and 0 < int(numbered[1]) <= len(self.me[0]):
+            return self.me[0][int(numbered[1]) - 1][0]
         return None
 
     def index_of(self, rest):
@@ -130,7 +134,7 @@ class Function:
                     up = self.places[up][0]
                 p = self.param(var)
                 if p:
-                    ref = dict(self.me[0])[p]
+                    ref = {n: r for n, r, *_ in self.me[0]}[p]
                     return ["c", "args", p] + (["now"] if ref else []) + rest
                 return None
         return None
@@ -210,6 +214,12 @@ class Function:
                 ps = self.d["params"].get(callee)
                 if got and ps and got[0] < len(ps):
                     return base + ["new", ps[got[0]]] + got[1]
+            if rest[0] == "auto" and callee and len(rest) > 1 and rest[1].isdigit():
+                f = function(callee)
+                kept = [n for n, _, is_mut in f[0] if is_mut] if f else []
+                got = self.index_of(rest[1:]) or (0, rest[1:])
+                if got[0] < len(kept):
+                    return base + ["auto", kept[got[0]]] + got[1]
             if rest[0] in ("ensures", "requires") and callee and len(rest) > 1 and rest[1].isdigit():
                 f = function(callee)
                 names = (f[1] if rest[0] == "ensures" else f[2]) if f else []
@@ -217,40 +227,110 @@ class Function:
                     rest[1] = names[int(rest[1])]
         return base + rest
 
+    def clauses_of(self, goal):
+        """The names of the clauses that the goal has in one, in their order."""
+        if goal.startswith("returns"):
+            return self.me[1] if self.me else []
+        if "-requires" in goal:
+            for up, old, new, callee, fields, i in self.places.values():
+                if callee and goal.startswith(new + "-requires"):
+                    f = function(callee)
+                    return f[2] if f else []
+        return []
+
+    def record(self, goal, text):
+        """A tuple for several clauses is a record of them."""
+        names = self.clauses_of(goal)
+        if len(names) < 2 or not text.rstrip().endswith(")"):
+            return text
+        t = text.rstrip()
+        deep, k = 0, len(t)
+        while k:
+            k -= 1
+            deep += (t[k] in ")]}") - (t[k] in "([{")
+            if not deep:
+                break
+        before = t[:k].rstrip()
+        if before and not before.endswith((" in", "=")) and before != "":
+            return text
+        inner, parts, deep, last = t[k + 1 : -1], [], 0, 0
+        for j, ch in enumerate(inner):
+            deep += (ch in "([{") - (ch in ")]}")
+            if ch == "," and not deep:
+                parts.append(inner[last:j].strip())
+                last = j + 1
+        parts.append(inner[last:].strip())
+        parts = [x for x in parts if x]
+        if len(parts) != len(names):
+            return text
+        return t[:k] + "record { " + "; ".join(f"{n} = {x}" for n, x in zip(names, parts)) + " }"
+
     # ---- terms
-    def term(self, text, aliases, goal):
-        """The text with its paths turned. aliases: from a name to its place."""
+    def term(self, text, aliases, goal, base):
+        """The text with its paths turned. aliases: from a name to a place with the words behind it, or to "args". base: what stands for the record at hand."""
         out, i = [], 0
         token = re.compile(r"(--[^\n]*)|(" + ID + r")((?:\." + ID + r")*)|(\s+)|(.)", re.S)
+        before = ""
         while i < len(text):
             m = token.match(text, i)
             i = m.end()
             if m[1] or m[4] or m[5]:
                 out.append(m[0])
+                if m[5]:
+                    before = m[0]
                 continue
             head, rest = m[2], [w for w in m[3].split(".") if w]
             if head == "let":
                 b = re.compile(r"\s+(" + ID + r")\s*=\s*(" + ID + r")((?:\." + ID + r")*)\s+in\s+").match(text, i)
-                if b and b[2] in aliases:
-                    got = self.path(aliases[b[2]], [w for w in b[3].split(".") if w])
+                if b and b[2] in aliases and aliases[b[2]] != "args":
+                    place, words = aliases[b[2]]
+                    words = words + [w for w in b[3].split(".") if w]
+                    got = self.path(place, words)
                     if isinstance(got, tuple):
-                        aliases[b[1]] = got[1]
+                        aliases[b[1]] = (got[1], [])
+                        i = b.end()
+                        continue
+                    if got == ["c", "args"]:
+                        aliases[b[1]] = "args"
+                        out.append(f"let {b[1]} = {base}.args in" + re.search(r"\s+$", b[0])[0])
+                        i = b.end()
+                        continue
+                    if got and not rest:
+                        aliases[b[1]] = (place, words)
                         i = b.end()
                         continue
                 out.append(m[0])
+                before = head
+                continue
+            if head in aliases and aliases[head] == "args":
+                if rest:
+                    rest[0] = self.param(rest[0]) or rest[0]
+                out.append(".".join([head] + rest))
+                before = head
                 continue
             if head in aliases:
-                got = self.path(aliases[head], rest)
+                place, words = aliases[head]
+                got = self.path(place, words + rest)
                 if got is None:
                     self.said.append(f"{self.crate}/{self.name}: {goal}: {m[0]}")
-                    out.append("c." + ".".join(w for w in rest if w != "before") if rest else m[0])
+                    out.append(".".join([base] + [w for w in words + rest if w != "before"]))
                 elif isinstance(got, tuple):
-                    new = self.new_place.get(got[1][1], got[1][1])
-                    out.append(f"(goal.at.{goal} c).{new}" if goal and goal != "-" else f"c.{new}")
+                    root, at = got[1]
+                    wanted = self.wants.get(before)
+                    at = wanted or at
+                    if at == root:
+                        out.append(base)
+                    elif goal and goal != "-":
+                        out.append(f"(goal.at.{goal} {base}).{self.new_place.get(at, at)}")
+                    else:
+                        chain = self.chain(root)
+                        out.append(base + ".before" * (chain.index(at) if at in chain else 0))
                 else:
-                    out.append(".".join(got))
+                    out.append(".".join([base] + got[1:]))
+                before = head
                 continue
             out.append(m[0])
+            before = head
         return "".join(out)
 
 
@@ -371,12 +451,14 @@ def convert(crate, name, data, folder, said):
             if SIMPLE.match(body.strip()) and not comment and body.strip() != "refl":
                 continue
             unf = "".join(l + "\n" for l in code if l.startswith("unfolding"))
-            aliases = {args[0]: (at, at)} if args else {}
-            turned = f.term(body, aliases, new)
+            aliases = {args[0]: ((at, at), [])} if args else {}
+            more = "".join(f" {a}" for a in args[1:] if a != "κs")
+            turned = f.term(body, aliases, new, "c")
+            turned = f.record(new, turned)
             indented = "\n" in body and body[0] != "\n" and d[0][: d.start(2) - d.start()].endswith("\n")
             lead = "\n    " if re.search(r"=\s*\n\s*$", b[d.start() : d.start(2)]) else " "
             turned = turned.lstrip()
-            ans.append(f"{comment}pub {new} : goal.{new}\n{unf}{new} c ={lead}{turned}")
+            ans.append(f"{comment}pub {new} : goal.{new}\n{unf}{new} c{more} ={lead}{turned}")
             continue
         # a helper: its records are those of places
         aliases = {}
@@ -384,7 +466,7 @@ def convert(crate, name, data, folder, said):
             pl = f.by_norm.get(norm(mm[2]))
             if pl:
                 for v in mm[1].split():
-                    aliases[v] = (pl, pl)
+                    aliases[v] = ((pl, pl), [])
                 places.add(f.new_place[pl])
             else:
                 said.append(f"{crate}/{name}: no place {mm[2]}")
@@ -400,60 +482,19 @@ def convert(crate, name, data, folder, said):
             # aliases of arguments by another name in the definition's line
             if not declared:
                 declared = re.match(r"(?:pub |abbrev |unfoldable )*(" + ID + ")", first)[1]
-            dd = re.search(r"^" + re.escape(declared) + r"((?: " + ID + r")*)\s*=", b2, re.M)
-            sigvars = [v for v in re.findall(r"\((" + ID + r"(?: " + ID + r")*) : ", b2.split("\n" + declared)[0])]
-            flat = " ".join(sigvars).split()
-            if dd:
-                for a, v in zip(dd[1].split(), flat):
-                    if v in aliases:
-                        aliases[a] = aliases[v]
-            keep = dict(aliases)
-            b2 = f.helper(b2, keep)
+            dd = re.search(r"^" + re.escape(declared) + r"((?: (?!=)" + ID + r")*)\s*=", b2, re.M)
+            head, tail = (b2[: dd.start()], b2[dd.start() :]) if dd else ("", b2)
+            flat = " ".join(re.findall(r"\((" + ID + r"(?: " + ID + r")*) : ", head)).split()
+            for a, v in zip(dd[1].split() if dd else [], flat):
+                if v in aliases:
+                    aliases[a] = aliases[v]
+            first_alias = next((v for v in flat if v in aliases), next(iter(aliases)))
+            f.wants[declared] = aliases[first_alias][0][1]
+            own = next((x for x in (dd[1].split() if dd else []) if x in aliases), first_alias)
+            head = f.term(head, dict(aliases), "-", first_alias)
+            b2 = head + f.term(tail, dict(aliases), "-", own)
         ans.append(b2)
     return f, heading, uses, inv, ans, places
-
-
-def helper(self, text, aliases):
-    """As term, with the alias's own name kept in place of c."""
-    out, i = [], 0
-    token = re.compile(r"(--[^\n]*)|(" + ID + r")((?:\." + ID + r")*)|(\s+)|(.)", re.S)
-    base = {k: k for k in aliases}
-    while i < len(text):
-        m = token.match(text, i)
-        i = m.end()
-        if m[1] or m[4] or m[5]:
-            out.append(m[0])
-            continue
-        head, rest = m[2], [w for w in m[3].split(".") if w]
-        if head == "let":
-            b = re.compile(r"\s+(" + ID + r")\s*=\s*(" + ID + r")((?:\." + ID + r")*)\s+in\s+").match(text, i)
-            if b and b[2] in aliases:
-                got = self.path(aliases[b[2]], [w for w in b[3].split(".") if w])
-                if isinstance(got, tuple):
-                    aliases[b[1]] = got[1]
-                    base[b[1]] = base[b[2]]
-                    i = b.end()
-                    continue
-            out.append(m[0])
-            continue
-        if head in aliases and rest:
-            got = self.path(aliases[head], rest)
-            if got is None:
-                self.said.append(f"{self.crate}/{self.name}: helper: {m[0]}")
-                out.append(m[0])
-            elif isinstance(got, tuple):
-                out.append(base[head])
-            else:
-                out.append(".".join([base[head]] + got[1:]))
-            continue
-        if head in aliases:
-            out.append(base[head])
-            continue
-        out.append(m[0])
-    return "".join(out)
-
-
-Function.helper = helper
 
 
 def needed(uses, body):
@@ -497,6 +538,20 @@ def main():
         f, heading, uses, inv, ans, places = convert(crate, name, data[key], folder, said)
         mod = f"Rattle.{crate}.proofs.{name}"
         head = "\n".join(h for h in heading if h)
+        shared = []
+        cited = "\n".join(inv)
+        for x in [x for x in ans if not re.search(r"^pub \S+ : goal\.", x, re.M)]:
+            word = re.search(r"^(?!--)((?:pub |abbrev |unfoldable |record )*)(" + ID + ")", x, re.M)
+            if word and re.search(r"(?<![\w.'-])" + re.escape(word[2]) + r"(?![\w'-])", cited):
+                ans.remove(x)
+                first = next(l for l in x.split("\n") if not l.startswith("--"))
+                made = first if "pub " in first else re.sub(r"^(abbrev |unfoldable )?", lambda m: (m[1] or "") + "pub ", first, count=1)
+                if first.startswith("record"):
+                    made = "pub " + first
+                    x = re.sub(r"^  (?=\w)", "  pub ", x, flags=re.M)
+                inv.insert(len(shared), x.replace(first, made, 1))
+                shared.append(word[2])
+                cited += x
         if inv:
             body = "\n\n".join(inv)
             lines = needed(uses, body) + [f"use {mod}.Given as goal"]
@@ -505,6 +560,9 @@ def main():
         if ans:
             body = "\n\n".join(ans)
             lines = needed(uses, body) + [f"use {mod}.Goals as goal"]
+            mine = [w for w in shared if re.search(r"(?<![\w.'-])" + re.escape(w) + r"(?![\w'-])", body)]
+            if mine:
+                lines.append(f"use {mod}.Invariants.{{{', '.join(mine)}}}")
             if places:
                 lines.append(f"use {mod}.Goals.{{{', '.join(sorted(places))}}}")
             with open(os.path.join(folder, "Answers.antt"), "w", encoding="utf-8") as o:

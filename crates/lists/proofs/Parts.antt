@@ -53,8 +53,8 @@ three_places l d h =
 pub threes : {A : Type 0} (l : List A) (d : A) (n : ℕ) → n * 3 ≤ length l
     → flat_map (λ t. get_or l (t * 3) d ∷ get_or l (t * 3 + 1) d ∷ get_or l (t * 3 + 2) d ∷ []) (range n) ≡ take (n * 3) l
 unfolding flat_map part
-threes [] d zero h = ap (flat_map _) range_none
-threes (a ∷ l) d zero h = ap (flat_map _) range_none
+threes {A} [] d zero h = let f : ℕ → List A = λ t. get_or [] (t * 3) d ∷ get_or [] (t * 3 + 1) d ∷ get_or [] (t * 3 + 2) d ∷ [] in ap (flat_map f) range_none
+threes {A} (a ∷ l) d zero h = let f : ℕ → List A = λ t. get_or (a ∷ l) (t * 3) d ∷ get_or (a ∷ l) (t * 3 + 1) d ∷ get_or (a ∷ l) (t * 3 + 2) d ∷ [] in ap (flat_map f) range_none
 threes {A} l d (suc n) h =
     let f : ℕ → List A = λ t. get_or l (t * 3) d ∷ get_or l (t * 3 + 1) d ∷ get_or l (t * 3 + 2) d ∷ [] in
     ap (λ (k : ℕ). flat_map f (range k)) (sym (add-one n))

@@ -30,12 +30,10 @@ above y t = lt y.angle t.angle
 place_found : (w : Left-place)
     → w.place.p ≡ place_of (get_or w.spots.b w.spots.q no_spot).angle (take w.spots.q w.spots.b)
 place_found w =
-    let b = w.spots.b in
-    let q = w.spots.q in
-    let f : q ≤ length b = fits w w.spots-test.true in
+    let f : w.spots.q ≤ length w.spots.b = fits w.before.before.before.before w.spots-test.true in
     ⊎_elim
-    (λ a. omega (arith, w.place.invariant.1, position_end (above (get_or b q no_spot)) b q w.place.p a.left f))
-    (λ a. omega (arith, w.place.invariant.1, position_here (above (get_or b q no_spot)) b q w.place.p no_spot a.0.taken f a.1.taken))
+    (λ a. omega (arith, w.place.invariant.1, position_end (above (get_or w.spots.b w.spots.q no_spot)) w.spots.b w.spots.q w.place.p a.left f))
+    (λ a. omega (arith, w.place.invariant.1, position_here (above (get_or w.spots.b w.spots.q no_spot)) w.spots.b w.spots.q w.place.p no_spot a.0.taken f a.1.taken))
     w.place-test.branch
 
 pub spots-init : goal.spots-init
@@ -46,13 +44,11 @@ place-init c = (zero-le, sym (zero-add _))
 
 pub place-preserved : goal.place-preserved
 place-preserved c =
-    let b = c.spots.b in
-    (omega arith, omega (arith, c.place.invariant.1, position_on (above (get_or b c.spots.q no_spot)) b c.spots.q c.place.p no_spot c.place-test.true (fits (goal.at.place-preserved c).At-spots c.spots-test.true) c.if-angle-b.false))
+    (omega arith, omega (arith, c.place.invariant.1, position_on (above (get_or c.spots.b c.spots.q no_spot)) c.spots.b c.spots.q c.place.p no_spot c.place-test.true (fits (goal.at.place-preserved c).At-spots c.spots-test.true) c.if-angle-b.false))
 
 pub moved-init : goal.moved-init
 moved-init c =
-    let b = c.spots.b in
-    (zero-le, paste-zero b c.place.p (get_or b c.spots.q no_spot ∷ drop c.place.p b), refl)
+    (zero-le, paste-zero c.spots.b c.place.p (get_or c.spots.b c.spots.q no_spot ∷ drop c.place.p c.spots.b), refl)
 
 pub moved-preserved : goal.moved-preserved
 moved-preserved c =
@@ -64,17 +60,15 @@ moved-preserved c =
 
 pub spots-preserved : goal.spots-preserved
 spots-preserved c =
-    let a = c.args.a in
-    let q = c.spots.q in
-    let y = get_or c.spots.b q no_spot in
-    let long-a : q < length a = omega (arith, c.well_formed.0.1.0.1) in
-    let e : c.moved.r ≡ q + 1 - c.place.p = omega arith in
-    let f : c.place.p + (q + 1 - c.place.p) ≡ q + 1 = omega arith in
-    let opened : c.moved.b ≡ opened_of c.spots.b c.place.p q y = rw (c.moved.invariant.1, e, f) refl in
-    let placed : c.place.p ≡ place_of y.angle (take q c.spots.b) = place_found (goal.at.spots-preserved c).Left-place in
-    let inserted : opened_of c.spots.b (place_of y.angle (take q c.spots.b)) q y ≡ inserted_in c.spots.b q y = opened_inserted c.spots.b q y (omega (arith, long (goal.at.spots-preserved c).At-spots)) in
-    let same : y ≡ get_or a q no_spot = ap (λ (l : List Spot). get_or l q no_spot) c.spots.invariant.1 ∙ sorted_next a q long-a in
-    (omega arith, opened ∙ ap (λ (p : ℕ). opened_of c.spots.b p q y) placed ∙ inserted ∙ rw (same, c.spots.invariant.1) (sorted_more a q long-a))
+    let y = get_or c.spots.b c.spots.q no_spot in
+    let long-a : c.spots.q < length c.args.a = omega (arith, c.well_formed.0.1.0.1) in
+    let e : c.moved.r ≡ c.spots.q + 1 - c.place.p = omega arith in
+    let f : c.place.p + (c.spots.q + 1 - c.place.p) ≡ c.spots.q + 1 = omega arith in
+    let opened : c.moved.b ≡ opened_of c.spots.b c.place.p c.spots.q y = rw (c.moved.invariant.1, e, f) refl in
+    let placed : c.place.p ≡ place_of y.angle (take c.spots.q c.spots.b) = place_found (goal.at.spots-preserved c).Left-place in
+    let inserted : opened_of c.spots.b (place_of y.angle (take c.spots.q c.spots.b)) c.spots.q y ≡ inserted_in c.spots.b c.spots.q y = opened_inserted c.spots.b c.spots.q y (omega (arith, long (goal.at.spots-preserved c).At-spots)) in
+    let same : y ≡ get_or c.args.a c.spots.q no_spot = ap (λ (l : List Spot). get_or l c.spots.q no_spot) c.spots.invariant.1 ∙ sorted_next c.args.a c.spots.q long-a in
+    (omega arith, opened ∙ ap (λ (p : ℕ). opened_of c.spots.b p c.spots.q y) placed ∙ inserted ∙ rw (same, c.spots.invariant.1) (sorted_more c.args.a c.spots.q long-a))
 
 pub returns : goal.returns
 returns c =

@@ -28,4 +28,4 @@ pub shape_of-cos : goal.shape_of-cos
 shape_of-cos c = c.loop-i.invariant.5
 
 pub returns : goal.returns
-returns c = (exactly _ _ _ _ (omega arith) c.loop-i.invariant.6, exactly _ _ _ _ (omega arith) c.loop-i.invariant.7)
+returns c = record { filled = exactly _ _ _ _ (omega arith) c.loop-i.invariant.6; filled_2 = exactly _ _ _ _ (omega arith) c.loop-i.invariant.7 }

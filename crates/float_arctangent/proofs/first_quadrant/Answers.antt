@@ -9,16 +9,12 @@ use Rattle.float_arctangent.proofs.first_quadrant.Goals as goal
 pub returns-then-y-x : goal.returns-then-y-x
 unfolding first_quadrant_of
 returns-then-y-x c =
-    let y = c.args.y in
-    let x = c.args.x in
     c.atan.ensures
     ∙ ap atan_of c.ratio.ensures
-    ∙ sym (cond_yes (atan_of (ratio_of y x)) (sub binary64 half_pi (atan_of (ratio_of x y))) c.if-y-x.true)
+    ∙ sym (cond_yes (atan_of (ratio_of c.args.y c.args.x)) (sub binary64 half_pi (atan_of (ratio_of c.args.x c.args.y))) c.if-y-x.true)
 
 pub returns : goal.returns
 unfolding first_quadrant_of
 returns c =
-    let y = c.args.y in
-    let x = c.args.x in
     ap (sub binary64 half_pi) (c.atan-2.ensures ∙ ap atan_of c.ratio-2.ensures)
-    ∙ sym (cond_no (atan_of (ratio_of y x)) (sub binary64 half_pi (atan_of (ratio_of x y))) c.if-y-x.false)
+    ∙ sym (cond_no (atan_of (ratio_of c.args.y c.args.x)) (sub binary64 half_pi (atan_of (ratio_of c.args.x c.args.y))) c.if-y-x.false)

@@ -8,8 +8,8 @@ use Rattle.float_arctangent.proofs.ratio.Goals as goal
 
 pub returns-then-y-x : goal.returns-then-y-x
 unfolding ratio_of of_bits
-returns-then-y-x c = let y = c.args.y in let x = c.args.x in sym (cond_yes +0 (div binary64 y x) c.if-y-x.true)
+returns-then-y-x c = sym (cond_yes +0 (div binary64 c.args.y c.args.x) c.if-y-x.true)
 
 pub returns : goal.returns
 unfolding ratio_of of_bits
-returns c = let y = c.args.y in let x = c.args.x in sym (cond_no +0 (div binary64 y x) c.if-y-x.false)
+returns c = sym (cond_no +0 (div binary64 c.args.y c.args.x) c.if-y-x.false)

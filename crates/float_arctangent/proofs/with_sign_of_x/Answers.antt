@@ -8,8 +8,8 @@ use Rattle.float_arctangent.proofs.with_sign_of_x.Goals as goal
 
 pub returns-then-sign_bit64 : goal.returns-then-sign_bit64
 unfolding with_sign_of_x
-returns-then-sign_bit64 c = let x = c.args.x in let a = c.args.a in sym (cond_yes (sub binary64 PI64 a) a (sym c.sign_bit64.ensures ∙ c.if-sign_bit64.true))
+returns-then-sign_bit64 c = sym (cond_yes (sub binary64 PI64 c.args.a) c.args.a (sym c.sign_bit64.ensures ∙ c.if-sign_bit64.true))
 
 pub returns : goal.returns
 unfolding with_sign_of_x
-returns c = let x = c.args.x in let a = c.args.a in sym (cond_no (sub binary64 PI64 a) a (sym c.sign_bit64.ensures ∙ c.if-sign_bit64.false))
+returns c = sym (cond_no (sub binary64 PI64 c.args.a) c.args.a (sym c.sign_bit64.ensures ∙ c.if-sign_bit64.false))

@@ -7,8 +7,8 @@ use Rattle.float_arctangent.proofs.with_sign_of_y.Goals as goal
 
 pub returns-then-sign_bit64 : goal.returns-then-sign_bit64
 unfolding with_sign_of_y
-returns-then-sign_bit64 c = let y = c.args.y in let b = c.args.b in sym (cond_yes (neg b) b (sym c.sign_bit64.ensures ∙ c.if-sign_bit64.true))
+returns-then-sign_bit64 c = sym (cond_yes (neg c.args.b) c.args.b (sym c.sign_bit64.ensures ∙ c.if-sign_bit64.true))
 
 pub returns : goal.returns
 unfolding with_sign_of_y
-returns c = let y = c.args.y in let b = c.args.b in sym (cond_no (neg b) b (sym c.sign_bit64.ensures ∙ c.if-sign_bit64.false))
+returns c = sym (cond_no (neg c.args.b) c.args.b (sym c.sign_bit64.ensures ∙ c.if-sign_bit64.false))

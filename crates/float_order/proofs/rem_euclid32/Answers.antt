@@ -11,11 +11,8 @@ use Rattle.float_order.proofs.rem_euclid32.Goals as goal
 pub returns-then-x-m : goal.returns-then-x-m
 unfolding rem_euclid_of
 returns-then-x-m c =
-    let x = c.args.x in
-    let m = c.args.m in
-    let t = c.if-x-m.true in
     c.raised32.ensures
-    ∙ ap (λ (r : Float). cond (lt r +0) (add binary32 r m) r) (rem_inside binary32 x m (subst T (sym c.well_formed.0.1) tt) (both_left (lt x m) (lt (neg m) x) t) (both_right (lt x m) (lt (neg m) x) t))
+    ∙ ap (λ (r : Float). cond (lt r +0) (add binary32 r c.args.m) r) (rem_inside binary32 c.args.x c.args.m (subst T (sym c.well_formed.0.1) tt) (both_left (lt c.args.x c.args.m) (lt (neg c.args.m) c.args.x) c.if-x-m.true) (both_right (lt c.args.x c.args.m) (lt (neg c.args.m) c.args.x) c.if-x-m.true))
 
 pub returns : goal.returns
 unfolding rem_euclid_of

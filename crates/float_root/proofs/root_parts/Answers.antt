@@ -119,38 +119,36 @@ module _ (c : Start) where
       (rounded f n (word * 2 ^ 46) d a.dropped root rem st p c.requires.5 c.requires.6 (number a.m a.j a.scale (low f) l c.requires.0 c.requires.1 c.requires.3) (subst (λ (x : ℕ). Digits (x * 2 ^ 46) root rem) same g) s t)
 
 pub overflow_add-shift : goal.overflow_add-shift
-overflow_add-shift c = let s = zs (goal.at.overflow_add-shift c).Start in omega arith
+overflow_add-shift c = let s = zs c in omega arith
 
 pub overflow_add-shift-2 : goal.overflow_add-shift-2
-overflow_add-shift-2 c = let s = zs (goal.at.overflow_add-shift-2 c).Start in omega arith
+overflow_add-shift-2 c = let s = zs c in omega arith
 
 pub overflow_sub-shift : goal.overflow_sub-shift
-overflow_sub-shift c = let s = zs (goal.at.overflow_sub-shift c).Start in omega arith
+overflow_sub-shift c = let s = zs c in omega arith
 
 pub overflow_sub-half : goal.overflow_sub-half
-overflow_sub-half c = let s = zs (goal.at.overflow_sub-half c).Start in omega arith
+overflow_sub-half c = let s = zs c in omega arith
 
 pub overflow_cast-shift : goal.overflow_cast-shift
-overflow_cast-shift c = let s = zs (goal.at.overflow_cast-shift c).Start in omega arith
+overflow_cast-shift c = let s = zs c in omega arith
 
 pub overflow_shl-m : goal.overflow_shl-m
-overflow_shl-m c = let s = zs (goal.at.overflow_shl-m c).Start in omega arith
+overflow_shl-m c = let s = zs c in omega arith
 
 pub root_by_digits-r-requires : goal.root_by_digits-r-requires
-root_by_digits-r-requires c = le_trans (al (goal.at.root_by_digits-r-requires c).Start).0 (le_of_eq (sym (same (goal.at.root_by_digits-r-requires c).Start)))
+root_by_digits-r-requires c = le_trans (al c).0 (le_of_eq (sym (same c)))
 
 pub returns-then-r-eq0 : goal.returns-then-r-eq0
 returns-then-r-eq0 c =
-    let g = c.root_by_digits-r in
-    let z0 : g.result.rem ≡ 0 = c.if-r-eq0.true in
-    final (goal.at.returns-then-r-eq0 c).Start g.result.root g.result.rem 0 c.round_shift.result g.ensures ((λ _. refl), (λ h. absurd (none g.result.rem z0 h))) (omega arith)
-    (c.round_shift.ensures ∙ ap (λ (x : ℕ). closest x (2 ^ (c.args.dropped + 1))) (sym (add-zero (g.result.root * 2))))
+    let z0 : c.root_by_digits-r.result.rem ≡ 0 = c.if-r-eq0.true in
+    final (goal.at.returns-then-r-eq0 c).Start c.root_by_digits-r.result.root c.root_by_digits-r.result.rem 0 c.round_shift.result c.root_by_digits-r.ensures ((λ _. refl), (λ h. absurd (none c.root_by_digits-r.result.rem z0 h))) (omega arith)
+    (c.round_shift.ensures ∙ ap (λ (x : ℕ). closest x (2 ^ (c.args.dropped + 1))) (sym (add-zero (c.root_by_digits-r.result.root * 2))))
   where
     none : (x : ℕ) → x ≡ 0 → 0 < x → ⊥
     none x a b = omega arith
 
 pub returns-else-r-eq0 : goal.returns-else-r-eq0
 returns-else-r-eq0 c =
-    let g = c.root_by_digits-r in
-    let z0 : g.result.rem ≡ 0 → ⊥ = c.if-r-eq0.false in
-    final (goal.at.returns-else-r-eq0 c).Start g.result.root g.result.rem 1 c.round_shift-else-r-eq0.result g.ensures ((λ h. absurd (z0 h)), (λ _. refl)) (omega arith) c.round_shift-else-r-eq0.ensures
+    let z0 : c.root_by_digits-r.result.rem ≡ 0 → ⊥ = c.if-r-eq0.false in
+    final (goal.at.returns-else-r-eq0 c).Start c.root_by_digits-r.result.root c.root_by_digits-r.result.rem 1 c.round_shift-else-r-eq0.result c.root_by_digits-r.ensures ((λ h. absurd (z0 h)), (λ _. refl)) (omega arith) c.round_shift-else-r-eq0.ensures

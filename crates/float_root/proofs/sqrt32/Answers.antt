@@ -24,7 +24,6 @@ pub root_digits32-q-requires : goal.root_digits32-q-requires
 root_digits32-q-requires c =
     let p = to_bits binary32 c.args.x in
     let d = doubled (p % 2 ^ 23 + 2 ^ 23) (p / 2 ^ 23 % 2) (omega arith) in
-    let e = c.even_digits32.ensures in
     omega arith
 
 pub overflow_cast-q : goal.overflow_cast-q
@@ -35,9 +34,7 @@ assemble32-requires c = let r = c.root_digits32-q.ensures (some _ c.if-q-eq0.fal
 
 pub returns : goal.returns
 returns c =
-    let q = c.root_digits32-q in
-    let n = c.even_digits32 in
-    let r = q.ensures (some q.result c.if-q-eq0.false) in
+    let r = c.root_digits32-q.ensures (some c.root_digits32-q.result c.if-q-eq0.false) in
     c.assemble32.ensures
-    ∙ quick_root binary32 c.args.x (subst T (sym c.well_formed.0.1) tt) n.result q.result c.if-e-eq0.false c.if-e-ge255.false
-    n.ensures (r.2, r.3) r.0 r.1
+    ∙ quick_root binary32 c.args.x (subst T (sym c.well_formed.0.1) tt) c.even_digits32.result c.root_digits32-q.result c.if-e-eq0.false c.if-e-ge255.false
+    c.even_digits32.ensures (r.2, r.3) r.0 r.1

@@ -20,7 +20,7 @@ pub returns-then-x : goal.returns-then-x
 returns-then-x c = sqrt_nan binary64 c.args.x (differs_from_itself c.args.x (subst T (sym c.if-x.true) tt))
 
 pub float_to_bits-b : goal.float_to_bits-b
-float_to_bits-b c = real (goal.at.float_to_bits-b c).Else-x
+float_to_bits-b c = real c
 
 pub returns-then-b-eq0 : goal.returns-then-b-eq0
 returns-then-b-eq0 c =

@@ -34,7 +34,6 @@ pub root_digits64-q-requires : goal.root_digits64-q-requires
 root_digits64-q-requires c =
     let p = to_bits binary64 c.args.x in
     let d = doubled (p % 2 ^ 52 + 2 ^ 52) (p / 2 ^ 52 % 2) (omega arith) in
-    let e = c.even_digits64.ensures in
     omega arith
 
 pub assemble64-requires : goal.assemble64-requires

@@ -7,4 +7,4 @@ pub returns-then-b-eq1 : goal.returns-then-b-eq1
 returns-then-b-eq1 c = once _ _ c.if-b-eq1.true
 
 pub returns : goal.returns
-returns c = let h = c.if-b-eq1.false in twice _ _ (omega arith)
+returns c = twice _ _ (omega arith)

@@ -8,10 +8,10 @@ parts : (c : Start) → Halves c.args.q (c.args.q / 2 ^ 26) (c.args.q % 2 ^ 26)
 parts c = halves c.args.q c.requires.1
 
 pub overflow_mul-a : goal.overflow_mul-a
-overflow_mul-a c = let h = (parts (goal.at.overflow_mul-a c).Start).upper in omega arith
+overflow_mul-a c = let h = (parts c).upper in omega arith
 
 pub returns-then-upper-ge536870912 : goal.returns-then-upper-ge536870912
-returns-then-upper-ge536870912 c = absurd (subst T (sym h) tt)
+returns-then-upper-ge536870912 c h = absurd (subst T (sym h) tt)
 
 pub overflow_mul-a-2 : goal.overflow_mul-a-2
 overflow_mul-a-2 c = let h = (parts (goal.at.overflow_mul-a-2 c).Start).mixed in omega arith
@@ -20,7 +20,7 @@ pub overflow_mul-a-3 : goal.overflow_mul-a-3
 overflow_mul-a-3 c = let h = (parts (goal.at.overflow_mul-a-3 c).Start).mixed in omega arith
 
 pub returns-then-mixed-ge2147483648 : goal.returns-then-mixed-ge2147483648
-returns-then-mixed-ge2147483648 c = absurd (subst T (sym h) tt)
+returns-then-mixed-ge2147483648 c h = absurd (subst T (sym h) tt)
 
 pub overflow_mul-b : goal.overflow_mul-b
 overflow_mul-b c = let h = (parts (goal.at.overflow_mul-b c).Start).lower in omega arith
@@ -29,16 +29,13 @@ pub overflow_add-b : goal.overflow_add-b
 overflow_add-b c = let h = (parts (goal.at.overflow_add-b c).Start).lower in omega arith
 
 pub returns : goal.returns
-returns c =
+returns c h =
     let a = c.args.q / 2 ^ 26 in
     let b = c.args.q % 2 ^ 26 in
     let p = parts (goal.at.returns c).Start in
-    let u = c.wrapping_sub_u64-upper in
-    let m = c.wrapping_sub_u64-mixed in
-    let w = c.wrapping_sub_u64-lower in
-    let small : w.result < c.args.q * 2 = ltb-true _ _ h in
+    let small : c.wrapping_sub_u64-lower.result < c.args.q * 2 = ltb-true _ _ h in
     stepped p (record {
-      first = unwrapped u.result (a * a) u.ensures (omega (arith, p.upper, c.if-upper-ge536870912.false));
-      second = unwrapped m.result (a * b * 2) m.ensures (omega (arith, p.mixed, c.if-mixed-ge2147483648.false));
-      third = unwrapped w.result (2 ^ 56 + 1 + b * b) w.ensures (omega (arith, p.lower, small, c.requires.1));
+      first = unwrapped c.wrapping_sub_u64-upper.result (a * a) c.wrapping_sub_u64-upper.ensures (omega (arith, p.upper, c.if-upper-ge536870912.false));
+      second = unwrapped c.wrapping_sub_u64-mixed.result (a * b * 2) c.wrapping_sub_u64-mixed.ensures (omega (arith, p.mixed, c.if-mixed-ge2147483648.false));
+      third = unwrapped c.wrapping_sub_u64-lower.result (2 ^ 56 + 1 + b * b) c.wrapping_sub_u64-lower.ensures (omega (arith, p.lower, small, c.requires.1));
     }) small

@@ -1,13 +1,7 @@
 use Rattle.std.proofs.Common.{◌≡◌, ℕ, suc, ◌+◌, ◌-◌, ◌*◌, ◌/◌, ◌%◌, ◌^◌, ◌<◌, ◌≤◌, sym, ap, ◌∙◌, subst, subst₂, ⊎_elim, lt_of_lt_of_le, le_of_suc-le-suc, mul_assoc, mul_comm, pow-suc, zero-add, mul-one, add-one, arith, pow_mono}
 use Rattle.float_root_digits.proofs.Squares.{sq_suc, sq_twice, sq_lt}
 use Rattle.float_root_digits.proofs.root_by_digits.Goals as goal
-
-record Inv (m left root rem i : ℕ) : Type 0 where
-  turns : i ≤ 55
-  short : root < 2 ^ i
-  rest : rem ≤ 2 * root
-  word : left < 2 ^ 64
-  digits : (root * root + rem) * 2 ^ 64 + left ≡ m * 4 ^ i
+use Rattle.float_root_digits.proofs.root_by_digits.Invariants.{Inv}
 
 -- one turn: the number gets two digits more
 more : (m left s rem i S : ℕ) → (s + rem) * 2 ^ 64 + left ≡ m * 4 ^ i → S ≡ 4 * s + (rem * 4 + left / 2 ^ 62) → S * 2 ^ 64 + left % 2 ^ 62 * 4 ≡ m * 4 ^ (i + 1)
@@ -67,14 +61,13 @@ large m root rem a e r = let k = sq_suc root in le_of_suc-le-suc (sq_lt (2 ^ 54)
 
 pub loop-i-init : goal.loop-i-init
 loop-i-init c =
-    let a = c.ranges.m.fits in
     record { turns = omega arith; short = omega arith; rest = omega arith; word = omega arith; digits = zero-add c.args.m ∙ sym (mul-one c.args.m) }
 
 pub overflow_mul-rem : goal.overflow_mul-rem
-overflow_mul-rem c = let k = low _ _ _ _ _ c.loop-i.invariant c.loop-i-test.true in let b = c.loop-i.invariant.rest in omega arith
+overflow_mul-rem c = let k = low _ _ _ _ _ c.loop-i.invariant c.loop-i-test.true in omega arith
 
 pub overflow_add-rem : goal.overflow_add-rem
-overflow_add-rem c = let k = low _ _ _ _ _ c.loop-i.invariant c.loop-i-test.true in let b = c.loop-i.invariant.rest in let w = c.loop-i.invariant.word in omega arith
+overflow_add-rem c = let k = low _ _ _ _ _ c.loop-i.invariant c.loop-i-test.true in omega arith
 
 pub overflow_mul-root : goal.overflow_mul-root
 overflow_mul-root c = let k = low _ _ _ _ _ c.loop-i.invariant c.loop-i-test.true in omega arith
@@ -93,18 +86,15 @@ overflow_add-root c = let k = low _ _ _ _ _ c.loop-i.invariant c.loop-i-test.tru
 
 pub loop-i-preserved : goal.loop-i-preserved
 loop-i-preserved c =
-    let m = c.args.m in
-    let p : ℕ → ℕ → Type 0 = λ x y. Inv m (c.loop-i.left % 2 ^ 62 * 4) x y (c.loop-i.i + 1) in
+    let p : ℕ → ℕ → Type 0 = λ x y. Inv c.args.m (c.loop-i.left % 2 ^ 62 * 4) x y (c.loop-i.i + 1) in
     ⊎_elim
-    (λ w. subst₂ p (sym w.1) (sym w.2) (step-one m c.loop-i.left c.loop-i.root c.loop-i.rem c.loop-i.i c.loop-i.invariant c.loop-i-test.true w.0.taken))
-    (λ w. subst₂ p (sym w.1) (sym w.2) (step-none m c.loop-i.left c.loop-i.root c.loop-i.rem c.loop-i.i c.loop-i.invariant c.loop-i-test.true w.0.left))
+    (λ w. subst₂ p (sym w.1) (sym w.2) (step-one c.args.m c.loop-i.left c.loop-i.root c.loop-i.rem c.loop-i.i c.loop-i.invariant c.loop-i-test.true w.0.taken))
+    (λ w. subst₂ p (sym w.1) (sym w.2) (step-none c.args.m c.loop-i.left c.loop-i.root c.loop-i.rem c.loop-i.i c.loop-i.invariant c.loop-i-test.true w.0.left))
     c.if-root-rem.branch
 
 pub returns : goal.returns
 returns c =
-    let v = c.loop-i.invariant in
-    let m = c.args.m in
-    let n : c.loop-i.i ≡ 55 = let t = v.turns in omega arith in
-    let e : m * 2 ^ 46 ≡ c.loop-i.root * c.loop-i.root + c.loop-i.rem =
-    done (c.loop-i.root * c.loop-i.root + c.loop-i.rem) m c.loop-i.left v.word (v.digits ∙ ap (λ (x : ℕ). m * 4 ^ x) n) in
-    (e, v.rest, large m c.loop-i.root c.loop-i.rem c.requires e v.rest, subst (λ (x : ℕ). c.loop-i.root < 2 ^ x) n v.short)
+    let n : c.loop-i.i ≡ 55 = omega arith in
+    let e : c.args.m * 2 ^ 46 ≡ c.loop-i.root * c.loop-i.root + c.loop-i.rem =
+    done (c.loop-i.root * c.loop-i.root + c.loop-i.rem) c.args.m c.loop-i.left c.loop-i.invariant.word (c.loop-i.invariant.digits ∙ ap (λ (x : ℕ). c.args.m * 4 ^ x) n) in
+    (e, c.loop-i.invariant.rest, large c.args.m c.loop-i.root c.loop-i.rem c.requires e c.loop-i.invariant.rest, subst (λ (x : ℕ). c.loop-i.root < 2 ^ x) n c.loop-i.invariant.short)

@@ -13,12 +13,11 @@ few : (c : Else-p-ne1023) → (to_bits binary64 c.args.g - 0x3fe0_0000_0000_0000
 few c = omega arith
 
 pub overflow_mul-s : goal.overflow_mul-s
-overflow_mul-s c = let s = mul-le-mul (few (goal.at.overflow_mul-s c).Else-p-ne1023) (few (goal.at.overflow_mul-s c).Else-p-ne1023) in omega arith
+overflow_mul-s c = let s = mul-le-mul (few c) (few c) in omega arith
 
 pub overflow_add-s : goal.overflow_add-s
 overflow_add-s c = let s = mul-le-mul (few (goal.at.overflow_add-s c).Else-p-ne1023) (few (goal.at.overflow_add-s c).Else-p-ne1023) in omega arith
 
 pub returns : goal.returns
 returns c =
-    let h = c.if-m-q.false in
-    λ _. (omega arith, no_carry c.args.n _ c.requires h (few (goal.at.returns c).Else-p-ne1023), h, c.if-s-q.false)
+    λ _. (omega arith, no_carry c.args.n _ c.requires c.if-m-q.false (few (goal.at.returns c).Else-p-ne1023), c.if-m-q.false, c.if-s-q.false)

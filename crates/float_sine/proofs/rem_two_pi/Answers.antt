@@ -9,8 +9,7 @@ use Rattle.float_sine.proofs.rem_two_pi.Goals as goal
 
 pub returns-then-v : goal.returns-then-v
 returns-then-v c =
-    let v = c.args.v in
-    remainder_inside v (subst T (sym c.well_formed.0.1) tt) (both_left (lt v two_pi) (lt (neg two_pi) v) c.if-v.true) (both_right (lt v two_pi) (lt (neg two_pi) v) c.if-v.true)
+    remainder_inside c.args.v (subst T (sym c.well_formed.0.1) tt) (both_left (lt c.args.v two_pi) (lt (neg two_pi) c.args.v) c.if-v.true) (both_right (lt c.args.v two_pi) (lt (neg two_pi) c.args.v) c.if-v.true)
 
 pub returns : goal.returns
 unfolding remainder

@@ -7,10 +7,8 @@ use Rattle.float_sine.proofs.sin_cos.Goals.{After-cosine_sum-c}
 at : (c : After-cosine_sum-c) → Turned c.args.v c.sine_sum-s.result c.cosine_sum-c.result c.turn_of-t.result.m
 unfolding S C
 at c =
-    let turn = c.turn_of-t in
-    let rem = c.rem_two_pi-r in
-    turned c.args.v rem.result turn.result.k c.sine_sum-s.result c.cosine_sum-c.result turn.result.m
-    rem.ensures turn.ensures c.sine_sum-s.ensures c.cosine_sum-c.ensures
+    turned c.args.v c.rem_two_pi-r.result c.turn_of-t.result.k c.sine_sum-s.result c.cosine_sum-c.result c.turn_of-t.result.m
+    c.rem_two_pi-r.ensures c.turn_of-t.ensures c.sine_sum-s.ensures c.cosine_sum-c.ensures
 
 pub returns-then-m-eq0 : goal.returns-then-m-eq0
 returns-then-m-eq0 c = (at (goal.at.returns-then-m-eq0 c).After-cosine_sum-c).at_0 c.if-m-eq0.true

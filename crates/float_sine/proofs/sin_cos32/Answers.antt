@@ -7,6 +7,4 @@ use Rattle.float_sine.proofs.sin_cos32.Goals as goal
 pub returns : goal.returns
 unfolding sin32_of cos32_of
 returns c =
-    let p = c.sin_cos-t.ensures in
-    let w = c.widen.ensures in
-    (c.narrow.ensures ∙ ap narrow_of (p.0 ∙ ap sin_of w), c.narrow-2.ensures ∙ ap narrow_of (p.1 ∙ ap cos_of w))
+    (c.narrow.ensures ∙ ap narrow_of (c.sin_cos-t.ensures.0 ∙ ap sin_of c.widen.ensures), c.narrow-2.ensures ∙ ap narrow_of (c.sin_cos-t.ensures.1 ∙ ap cos_of c.widen.ensures))

@@ -37,7 +37,7 @@ unfolding div of_bits
 returns-then-x c = of_nan c.args.x (differs_from_itself c.args.x (subst T (sym c.if-x.true) tt))
 
 pub float_to_bits-b : goal.float_to_bits-b
-float_to_bits-b c = real (goal.at.float_to_bits-b c).Else-x
+float_to_bits-b c = real c
 
 pub returns-then-neg : goal.returns-then-neg
 unfolding div neg of_bits

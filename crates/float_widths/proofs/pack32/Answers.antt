@@ -66,33 +66,31 @@ overflow_sub-j c = short c.args.m (64 - count_leading_zeros 64 c.args.m) c.args.
 
 kept : (c : After-round_shift) → c.round_shift.result ≤ 2 ^ 24
 kept c =
-    let j = c.args.j in
     subst (λ (x : ℕ). x ≤ 2 ^ 24) (sym c.round_shift.ensures)
-    (closest_le c.args.m (2 ^ (925 - j)) (2 ^ 24) (pow_pos (925 - j)) (under c.args.m (64 - count_leading_zeros 64 c.args.m) j (len c) c.requires.1 c.if-z-j-le949.true))
+    (closest_le c.args.m (2 ^ (925 - c.args.j)) (2 ^ 24) (pow_pos (925 - c.args.j)) (under c.args.m (64 - count_leading_zeros 64 c.args.m) c.args.j (len c.before.before) c.requires.1 c.if-z-j-le949.true))
 
 pub overflow_cast-round_shift : goal.overflow_cast-round_shift
-overflow_cast-round_shift c = let h = kept (goal.at.overflow_cast-round_shift c).After-round_shift in omega arith
+overflow_cast-round_shift c = let h = kept c in omega arith
 
 pub assemble32-requires : goal.assemble32-requires
-assemble32-requires c = (kept (goal.at.assemble32-requires c).After-round_shift, (λ z. absurd (lt_irrefl 0 z)))
+assemble32-requires c = (kept c, (λ z. absurd (lt_irrefl 0 z)))
 
 pub overflow_sub-z-else-z-j-le949 : goal.overflow_sub-z-else-z-j-le949
 overflow_sub-z-else-z-j-le949 c = let h = more c.args.m (64 - count_leading_zeros 64 c.args.m) c.args.j (len (goal.at.overflow_sub-z-else-z-j-le949 c).Start) c.requires.1 c.if-z-j-le949.false in omega arith
 
 kept-2 : (c : After-round_shift-else-z-j-le949) → (c.round_shift-else-z-j-le949.result ≤ 2 ^ 24) × (2 ^ 23 ≤ c.round_shift-else-z-j-le949.result)
 kept-2 c =
-    let m = c.args.m in
-    let z = 64 - count_leading_zeros 64 m in
+    let z = 64 - count_leading_zeros 64 c.args.m in
     subst (λ (x : ℕ). (x ≤ 2 ^ 24) × (2 ^ 23 ≤ x)) (sym c.round_shift-else-z-j-le949.ensures) (
-      closest_le m (2 ^ (z - 24)) (2 ^ 24) (pow_pos (z - 24)) (under-2 m z c.args.j (len c) c.requires.1 c.if-z-j-le949.false),
-      closest_ge m (2 ^ (z - 24)) (2 ^ 23) (pow_pos (z - 24)) (over-2 m z c.args.j (len c) c.requires.1 c.if-z-j-le949.false),
+      closest_le c.args.m (2 ^ (z - 24)) (2 ^ 24) (pow_pos (z - 24)) (under-2 c.args.m z c.args.j (len c.before.before) c.requires.1 c.if-z-j-le949.false),
+      closest_ge c.args.m (2 ^ (z - 24)) (2 ^ 23) (pow_pos (z - 24)) (over-2 c.args.m z c.args.j (len c.before.before) c.requires.1 c.if-z-j-le949.false),
     )
 
 pub overflow_cast-round_shift-else-z-j-le949 : goal.overflow_cast-round_shift-else-z-j-le949
-overflow_cast-round_shift-else-z-j-le949 c = let h = kept-2 (goal.at.overflow_cast-round_shift-else-z-j-le949 c).After-round_shift-else-z-j-le949 in omega arith
+overflow_cast-round_shift-else-z-j-le949 c = let h = kept-2 c in omega arith
 
 pub assemble32-requires-else-z-j-le949 : goal.assemble32-requires-else-z-j-le949
-assemble32-requires-else-z-j-le949 c = ((kept-2 (goal.at.assemble32-requires-else-z-j-le949 c).After-round_shift-else-z-j-le949).0, (λ _. (kept-2 (goal.at.assemble32-requires-else-z-j-le949 c).After-round_shift-else-z-j-le949).1))
+assemble32-requires-else-z-j-le949 c = ((kept-2 c).0, (λ _. (kept-2 c).1))
 
 pub returns-then-z-j-le949 : goal.returns-then-z-j-le949
 returns-then-z-j-le949 c =

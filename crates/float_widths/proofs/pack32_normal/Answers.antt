@@ -13,10 +13,10 @@ kept c =
     )
 
 pub overflow_cast-round_shift : goal.overflow_cast-round_shift
-overflow_cast-round_shift c = let h = kept (goal.at.overflow_cast-round_shift c).After-round_shift in omega arith
+overflow_cast-round_shift c = let h = kept c in omega arith
 
 pub assemble32-requires : goal.assemble32-requires
-assemble32-requires c = ((kept (goal.at.assemble32-requires c).After-round_shift).0, (λ _. (kept (goal.at.assemble32-requires c).After-round_shift).1))
+assemble32-requires c = ((kept c).0, (λ _. (kept c).1))
 
 pub returns : goal.returns
 returns c =

@@ -54,17 +54,15 @@ returns-then-sh-gt64 c =
 pub overflow_add-result : goal.overflow_add-result
 overflow_add-result c =
     let h = halved c.args.m (2 ^ (c.args.sh - 1)) c.ranges.m.fits in
-    let e = c.carry.ensures in
     let s = carry-small (eqb (c.args.m / 2 ^ (c.args.sh - 1) % 2) 1 && (not (eqb (c.args.m / 2 ^ (c.args.sh - 1) * 2 ^ (c.args.sh - 1) % 2 ^ 64) c.args.m) || eqb (c.args.m / 2 ^ (c.args.sh - 1) / 2 % 2) 1)) in
     omega arith
 
 pub returns : goal.returns
 returns c =
-    let m = c.args.m in
     let h = c.args.sh - 1 in
-    let more : Bool = not (eqb (m / 2 ^ h * 2 ^ h % 2 ^ 64) m) in
-    at m c.args.sh _ (some _ c.if-sh-eq0.false)
-    (ap (λ (x : ℕ). m / 2 ^ h / 2 + x) c.carry.ensures
-    ∙ carried m (2 ^ h) more (pow_pos h)
-    (λ e. rest_some (m / 2 ^ h * 2 ^ h) (m % 2 ^ h) m (div-add-mod' m (2 ^ h)) (λ f. eqb-false (m / 2 ^ h * 2 ^ h % 2 ^ 64) m (not-true _ e) (back m h c.ranges.m.fits ∙ f)))
-    (λ e. rest-none (m / 2 ^ h * 2 ^ h) (m % 2 ^ h) m (div-add-mod' m (2 ^ h)) (sym (back m h c.ranges.m.fits) ∙ eqb-true (m / 2 ^ h * 2 ^ h % 2 ^ 64) m (not-false _ e))))
+    let more : Bool = not (eqb (c.args.m / 2 ^ h * 2 ^ h % 2 ^ 64) c.args.m) in
+    at c.args.m c.args.sh _ (some _ c.if-sh-eq0.false)
+    (ap (λ (x : ℕ). c.args.m / 2 ^ h / 2 + x) c.carry.ensures
+    ∙ carried c.args.m (2 ^ h) more (pow_pos h)
+    (λ e. rest_some (c.args.m / 2 ^ h * 2 ^ h) (c.args.m % 2 ^ h) c.args.m (div-add-mod' c.args.m (2 ^ h)) (λ f. eqb-false (c.args.m / 2 ^ h * 2 ^ h % 2 ^ 64) c.args.m (not-true _ e) (back c.args.m h c.ranges.m.fits ∙ f)))
+    (λ e. rest-none (c.args.m / 2 ^ h * 2 ^ h) (c.args.m % 2 ^ h) c.args.m (div-add-mod' c.args.m (2 ^ h)) (sym (back c.args.m h c.ranges.m.fits) ∙ eqb-true (c.args.m / 2 ^ h * 2 ^ h % 2 ^ 64) c.args.m (not-false _ e))))

@@ -26,12 +26,9 @@ pub loop-m-init : goal.loop-m-init
 unfolding with_poles of_bits neg
 loop-m-init c =
     let a = c.args in
-    let p = c.with_pole-top.ensures in
-    let q = c.with_pole-m.ensures in
-    let d = c.with_room-arg-1.given.0 in
     let e = ap (points_in a.n) c.with_room-pts.ensures ∙ points_filled 162 a.n +0 a.dir.now (omega arith) in
-    left_start (points_in a.n a.dir.now) _ (length_points a.n a.dir.now) q.0 (omega arith) (omega arith)
-    (q.3 ∙ ap (λ (v : Points). with_pole v (+0 ∷ −1 ∷ +0 ∷ [])) (p.3 ∙ ap (λ (v : Points). with_pole v (+0 ∷ 1·0 ∷ +0 ∷ [])) e)) c.hull_triplets-hull.ensures
+    left_start (points_in a.n a.dir.now) _ (length_points a.n a.dir.now) c.with_pole-m.ensures.0 (omega arith) (omega arith)
+    (c.with_pole-m.ensures.3 ∙ ap (λ (v : Points). with_pole v (+0 ∷ −1 ∷ +0 ∷ [])) (c.with_pole-top.ensures.3 ∙ ap (λ (v : Points). with_pole v (+0 ∷ 1·0 ∷ +0 ∷ [])) e)) c.hull_triplets-hull.ensures
 
 pub overflow_sub-m : goal.overflow_sub-m
 overflow_sub-m c = omega (arith, c.loop-m.invariant.from)
@@ -61,9 +58,8 @@ overflow_sub-result c = omega (arith, c.loop-m.invariant.from)
 
 pub returns : goal.returns
 returns c =
-    let l = c.loop-m.invariant in
     let a = c.args in
     let r = length_points a.n a.dir.now in
-    ⊎_elim (λ w. done_full l r w.left)
-    (⊎_elim (λ w. done_closed l r w.1.taken) (λ w. done_none l r w.1.left w.3.ensures (not-true _ w.5.taken)))
+    ⊎_elim (λ w. done_full c.loop-m.invariant r w.left)
+    (⊎_elim (λ w. done_closed c.loop-m.invariant r w.1.taken) (λ w. done_none c.loop-m.invariant r w.1.left w.3.ensures (not-true _ w.5.taken)))
     c.loop-m-test.branch

@@ -11,5 +11,5 @@ unfolding stored
 returns c =
     let a = c.args in
     let room : a.n * 3 + 3 ≤ length a.pts.now = omega arith in
-    let three : length a.t3 ≡ 3 = c.well_formed.1.1.0.1.0.1 in
-    (stored_long a.n a.pts.now a.t3 room three ∙ c.requires.1, points_push a.n a.pts.now a.t3 room three)
+    let three : length a.c ≡ 3 = c.well_formed.1.1.0.1.0.1 in
+    (stored_long a.n a.pts.now a.c room three ∙ c.requires.1, points_push a.n a.pts.now a.c room three)

@@ -11,7 +11,7 @@ pub loop-q-init : goal.loop-q-init
 loop-q-init c = (omega arith, refl, c.requires, λ p h. absurd (omega arith))
 
 pub returns-then-not-is_near : goal.returns-then-not-is_near
-returns-then-not-is_near c = absurd (true≢false (sym e))
+returns-then-not-is_near c e = absurd (true≢false (sym e))
 
 pub loop-q-preserved : goal.loop-q-preserved
 loop-q-preserved c =
@@ -19,4 +19,4 @@ loop-q-preserved c =
 
 pub returns : goal.returns
 unfolding NearIn
-returns c = c.loop-q.invariant.3 p (omega arith)
+returns c e p h = c.loop-q.invariant.3 p (omega arith)

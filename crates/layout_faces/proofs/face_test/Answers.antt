@@ -18,9 +18,7 @@ placed c =
 
 pub returns-then-near-well_apart : goal.returns-then-near-well_apart
 returns-then-near-well_apart c =
-    let w = c.well_apart in
-    let near = c.args.near in
-    sym (w.ensures (and_right near w.result c.if-near-well_apart.true) (c.requires.4 (and_left near w.result c.if-near-well_apart.true)))
+    sym (c.well_apart.ensures (and_right c.args.near c.well_apart.result c.if-near-well_apart.true) (c.requires.4 (and_left c.args.near c.well_apart.result c.if-near-well_apart.true)))
 
 pub returns-then-nl : goal.returns-then-nl
 returns-then-nl c =

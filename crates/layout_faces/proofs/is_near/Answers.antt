@@ -5,4 +5,4 @@ use Rattle.layout_faces.specs.Inner.Margin.{largest}
 use Rattle.layout_faces.proofs.is_near.Goals as goal
 
 pub returns : goal.returns
-returns c = record { held = c.well_formed.0.1; most = ap (λ (x : Float). le x largest) (sym c.abs64.ensures) ∙ e }
+returns c e = record { held = c.well_formed.0.1; most = ap (λ (x : Float). le x largest) (sym c.abs64.ensures) ∙ e }

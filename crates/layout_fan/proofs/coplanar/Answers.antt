@@ -21,13 +21,13 @@ loop-p-preserved-then-not-is_coplanar c =
     (omega arith, found_no (is_coplanar a.pts.now a.i a.j a.k a.nrm a.d) c.loop-p.p c.loop-p.invariant.1 c.is_coplanar.ensures (not-true _ c.if-not-is_coplanar.true-raw))
 
 pub offset_bounds-at-count : goal.offset_bounds-at-count
-offset_bounds-at-count c = omega (arith, room (goal.at.offset_bounds-at-count c).Else-not-is_coplanar)
+offset_bounds-at-count c = omega (arith, room c)
 
 pub bounds-at-count : goal.bounds-at-count
-bounds-at-count c = omega (arith, room (goal.at.bounds-at-count c).After-way_told-1)
+bounds-at-count c = omega (arith, room (goal.at.bounds-at-count c).Else-not-is_coplanar)
 
 pub overflow_add-count : goal.overflow_add-count
-overflow_add-count c = omega (arith, room (goal.at.overflow_add-count c).After-way_told-1)
+overflow_add-count c = omega (arith, room (goal.at.overflow_add-count c).Else-not-is_coplanar)
 
 pub loop-p-preserved : goal.loop-p-preserved
 loop-p-preserved c =

@@ -21,7 +21,7 @@ abbrev blank : Spot
 blank = record { angle = nan; number = 0 }
 
 -- an array by value has its type's length
-fits : (g : Start) → g.args.m ≤ length g.args.t1
+fits : (g : Start) → g.args.m ≤ length g.args.a
 fits g = omega (arith, g.well_formed.0.1.0.1)
 
 pub loop-q-init : goal.loop-q-init
@@ -30,14 +30,14 @@ loop-q-init c = (omega arith, sym (zero-add _))
 pub returns-then-a-q : goal.returns-then-a-q
 unfolding pos_of
 returns-then-a-q c =
-    omega (arith, c.loop-q.invariant.1, position_here (numbered c.args.p) c.args.t1 c.args.m c.loop-q.q blank c.loop-q-test.true (fits (goal.at.returns-then-a-q c).Start) (eq-eqb _ _ c.if-a-q.true))
+    omega (arith, c.loop-q.invariant.1, position_here (numbered c.args.p) c.args.a c.args.m c.loop-q.q blank c.loop-q-test.true (fits (goal.at.returns-then-a-q c).Start) (eq-eqb _ _ c.if-a-q.true))
 
 pub loop-q-preserved : goal.loop-q-preserved
 unfolding pos_of
 loop-q-preserved c =
-    (omega arith, omega (arith, c.loop-q.invariant.1, position_on (numbered c.args.p) c.args.t1 c.args.m c.loop-q.q blank c.loop-q-test.true (fits (goal.at.loop-q-preserved c).Start) (ne_eqb _ _ c.if-a-q.false)))
+    (omega arith, omega (arith, c.loop-q.invariant.1, position_on (numbered c.args.p) c.args.a c.args.m c.loop-q.q blank c.loop-q-test.true (fits (goal.at.loop-q-preserved c).Start) (ne_eqb _ _ c.if-a-q.false)))
 
 pub returns : goal.returns
 unfolding pos_of
 returns c =
-    omega (arith, c.loop-q.invariant.1, position_end (numbered c.args.p) c.args.t1 c.args.m c.loop-q.q c.loop-q-test.false (fits (goal.at.returns c).Start))
+    omega (arith, c.loop-q.invariant.1, position_end (numbered c.args.p) c.args.a c.args.m c.loop-q.q c.loop-q-test.false (fits (goal.at.returns c).Start))

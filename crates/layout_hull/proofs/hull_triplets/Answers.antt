@@ -53,8 +53,7 @@ third-preserved-then-t-ge80 c =
 
 pub put_numbers-requires : goal.put_numbers-requires
 put_numbers-requires c =
-    let v = c.third-test.true in
-    (omega (arith, c.if-t-ge80.false), omega (arith, v, c.third.invariant.0, c.third.invariant.1, c.third.invariant.3), omega (arith, v, c.third.invariant.1, c.third.invariant.3), omega (arith, v, c.third.invariant.3))
+    (omega (arith, c.if-t-ge80.false), omega (arith, c.third-test.true, c.third.invariant.0, c.third.invariant.1, c.third.invariant.3), omega (arith, c.third-test.true, c.third.invariant.1, c.third.invariant.3), omega (arith, c.third-test.true, c.third.invariant.3))
 
 pub put_inverse-requires : goal.put_inverse-requires
 put_inverse-requires c = omega (arith, c.if-t-ge80.false)

@@ -5,4 +5,4 @@ use Rattle.layout_hull.proofs.row.Goals as goal
 pub returns : goal.returns
 returns c =
     let a = c.args in
-    row_computed a.t1 a.det c.narrow.ensures c.narrow-2.ensures c.narrow-3.ensures
+    row_computed a.r a.det c.narrow.ensures c.narrow-2.ensures c.narrow-3.ensures

@@ -47,9 +47,9 @@ reach-requires c =
     (c.requires.slots.0, (c.requires.points.low (c.args.t * 3 + 2) (omega arith), (_, c.reach-cj.ensures _ (c.reach-ci.ensures _ c.requires.slots.1.1))))
 
 pub returns-then-visited-i : goal.returns-then-visited-i
-returns-then-visited-i c =
+returns-then-visited-i c r h =
     rw (across_meets c.args.t c.requires.points c.requires.slots.0 h c.if-visited-i.true) (c.reach.ensures _ (c.reach-cj.ensures _ (c.reach-ci.ensures r h)))
 
 pub returns : goal.returns
-returns c =
+returns c r h =
     rw (across_misses c.args.t c.requires.points c.requires.slots.0 h c.if-visited-i.false) h

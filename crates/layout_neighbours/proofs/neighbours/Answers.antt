@@ -10,8 +10,7 @@ loop-k-init c = (zero-le, nums_none _ _, rows_none _ _)
 
 pub neighbours_of-f-requires : goal.neighbours_of-f-requires
 neighbours_of-f-requires c =
-    let p = c.requires in
-    (points_of p c.neighbours_of-arg-1.given.0, (slots_of_lem p c.neighbours_of-arg-in-loop-k-1.given.0, (omega arith, omega arith)))
+    (points_of c.requires c.neighbours_of-arg-1.given.0, (slots_of_lem c.requires c.neighbours_of-arg-in-loop-k-1.given.0, (omega arith, omega arith)))
 
 pub store-requires : goal.store-requires
 store-requires c =
@@ -29,8 +28,7 @@ pub loop-k-preserved : goal.loop-k-preserved
 loop-k-preserved c =
     let s = slots_of_lem c.requires c.neighbours_of-arg-in-loop-k-1.given.0 in
     let h : c.loop-k.k < 14 = omega arith in
-    let e = c.neighbours_of-f.ensures in
-    (omega arith, turn_nums s _ _ h e c.loop-k.invariant.1, turn_imag s _ _ h e c.loop-k.invariant.2 c.store.ensures)
+    (omega arith, turn_nums s _ _ h c.neighbours_of-f.ensures c.loop-k.invariant.1, turn_imag s _ _ h c.neighbours_of-f.ensures c.loop-k.invariant.2 c.store.ensures)
 
 pub returns : goal.returns
 returns c =

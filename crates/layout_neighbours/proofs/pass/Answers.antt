@@ -15,6 +15,6 @@ pub loop-t-preserved : goal.loop-t-preserved
 loop-t-preserved c = (omega arith, λ r h. rw pass_more (c.across-d.ensures _ (c.loop-t.invariant.1 r h)))
 
 pub returns : goal.returns
-returns c =
+returns c r h =
     let e : c.args.tris ≡ c.loop-t.t = omega arith in
     rw e (c.loop-t.invariant.1 r h)

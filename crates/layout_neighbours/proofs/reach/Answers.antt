@@ -13,34 +13,33 @@ found_room c =
 
 pub contains-requires : goal.contains-requires
 contains-requires c =
-    let h = c.requires.p_bound.1.1 in
-    (nbrs_long h, found_few h)
+    (nbrs_long c.requires.p_bound.1.1, found_few c.requires.p_bound.1.1)
 
 pub returns-then-contains : goal.returns-then-contains
-returns-then-contains c =
+returns-then-contains c r h =
     holds_listed c.requires.slots h c.args.p c.if-p-nreal.true (sym c.contains.ensures ∙ c.if-contains.true)
 
 pub bounds-nbrs-n : goal.bounds-nbrs-n
-bounds-nbrs-n c = found_room (goal.at.bounds-nbrs-n c).After-way_told-1
+bounds-nbrs-n c = found_room (goal.at.bounds-nbrs-n c).Else-contains
 
 pub overflow_add-result : goal.overflow_add-result
-overflow_add-result c = omega (arith, found_room (goal.at.overflow_add-result c).After-way_told-1)
+overflow_add-result c = omega (arith, found_room (goal.at.overflow_add-result c).Else-contains)
 
 pub returns-then-p-nreal : goal.returns-then-p-nreal
-returns-then-p-nreal c =
+returns-then-p-nreal c r h =
     holds_found c.requires.slots h c.args.p c.if-p-nreal.true (sym c.contains.ensures ∙ c.if-contains.false)
 
 pub returns-then-visited-p : goal.returns-then-visited-p
-returns-then-visited-p c =
+returns-then-visited-p c r h =
     holds_seen c.requires.slots h c.args.p c.if-p-nreal.false c.requires.p_bound.0 c.if-visited-p.true
 
 pub returns-then-n-ne0 : goal.returns-then-n-ne0
-returns-then-n-ne0 c =
+returns-then-n-ne0 c r h =
     holds_late c.requires.slots h c.args.p c.if-p-nreal.false c.if-n-ne0.true
 
 pub overflow_add-result-2 : goal.overflow_add-result-2
 overflow_add-result-2 c = omega (arith, seen_few c.requires.p_bound.1.1)
 
 pub returns : goal.returns
-returns c =
+returns c r h =
     holds_visited c.requires.slots h c.args.p c.if-p-nreal.false c.requires.p_bound.0 c.if-visited-p.false c.if-n-ne0.false

@@ -20,21 +20,19 @@ next-n-requires c = (omega arith, omega arith, omega arith)
 pub loop-i-preserved : goal.loop-i-preserved
 loop-i-preserved c =
     let a = c.args in
-    let l = c.loop-i in
     let f = speaker_at a.positions.now a.lfe.now in
-    let e = c.next-n.ensures ∙ ap (λ (x : Active). next_of x (f l.i)) l.invariant.1
-    ∙ next_active (collect f (range l.i)) (f l.i) (every_collect f three (λ i s h. active_three a.positions.now a.lfe.now i s h) (range l.i))
-    (λ s h. active_three a.positions.now a.lfe.now l.i s h)
-    (omega (arith, length_collect f (range l.i), length_range l.i))
-    ∙ ap active_in (sym (collect_range f l.i)) in (
+    let e = c.next-n.ensures ∙ ap (λ (x : Active). next_of x (f c.loop-i.i)) c.loop-i.invariant.1
+    ∙ next_active (collect f (range c.loop-i.i)) (f c.loop-i.i) (every_collect f three (λ i s h. active_three a.positions.now a.lfe.now i s h) (range c.loop-i.i))
+    (λ s h. active_three a.positions.now a.lfe.now c.loop-i.i s h)
+    (omega (arith, length_collect f (range c.loop-i.i), length_range c.loop-i.i))
+    ∙ ap active_in (sym (collect_range f c.loop-i.i)) in (
       omega arith,
       e,
-      omega (arith, counted _ (collect f (range (l.i + 1))) e, length_collect f (range (l.i + 1)), length_range (l.i + 1)),
+      omega (arith, counted _ (collect f (range (c.loop-i.i + 1))) e, length_collect f (range (c.loop-i.i + 1)), length_range (c.loop-i.i + 1)),
     )
 
 pub returns : goal.returns
 returns c =
     let a = c.args in
-    let l = c.loop-i in
-    let e : l.i ≡ a.outputs = omega arith in
-    l.invariant.1 ∙ ap (λ (k : ℕ). active_in (collect (speaker_at a.positions.now a.lfe.now) (range k))) e
+    let e : c.loop-i.i ≡ a.outputs = omega arith in
+    c.loop-i.invariant.1 ∙ ap (λ (k : ℕ). active_in (collect (speaker_at a.positions.now a.lfe.now) (range k))) e

@@ -15,10 +15,7 @@ use Rattle.float_sine.specs.Sine.{S, C, sine_coefficients, cosine_coefficients, 
 use Rattle.vector.specs.Vector.{points_in}
 use Rattle.layout_new.specs.Layout.{level_at, planar_max_elevation}
 use Rattle.layout_new.proofs.all_level.Goals as goal
-
--- the test of a direction, by its number
-abbrev level_in : List Float → ℕ → Bool
-level_in dir i = level_at (part 3 dir i)
+use Rattle.layout_new.proofs.all_level.Invariants.{level_in}
 
 points-level : (n : ℕ) (dir : List Float) → every level_at (points_in n dir) ≡ every (level_in dir) (between 0 n)
 unfolding points_in
@@ -52,19 +49,16 @@ loop-i-init c = (omega arith, refl)
 pub loop-i-preserved : goal.loop-i-preserved
 loop-i-preserved c =
     let a = c.args in
-    let l = c.loop-i in
-    let e : level_in a.dir.now l.i ≡ true = level-here a.dir.now l.i c.abs64-height.ensures ∙ c.if-height.true in
-    (omega arith, sym (every-cons (level_in a.dir.now) l.i a.n (omega arith) ∙ rw e refl) ∙ l.invariant.1)
+    let e : level_in a.dir.now c.loop-i.i ≡ true = level-here a.dir.now c.loop-i.i c.abs64-height.ensures ∙ c.if-height.true in
+    (omega arith, sym (every-cons (level_in a.dir.now) c.loop-i.i a.n (omega arith) ∙ rw e refl) ∙ c.loop-i.invariant.1)
 
 pub returns-else-height : goal.returns-else-height
 returns-else-height c =
     let a = c.args in
-    let l = c.loop-i in
-    let e : level_in a.dir.now l.i ≡ false = level-here a.dir.now l.i c.abs64-height.ensures ∙ c.if-height.false in
-    sym (every-cons (level_in a.dir.now) l.i a.n (omega arith) ∙ rw e refl) ∙ l.invariant.1 ∙ sym (points-level a.n a.dir.now)
+    let e : level_in a.dir.now c.loop-i.i ≡ false = level-here a.dir.now c.loop-i.i c.abs64-height.ensures ∙ c.if-height.false in
+    sym (every-cons (level_in a.dir.now) c.loop-i.i a.n (omega arith) ∙ rw e refl) ∙ c.loop-i.invariant.1 ∙ sym (points-level a.n a.dir.now)
 
 pub returns : goal.returns
 returns c =
     let a = c.args in
-    let l = c.loop-i in
-    sym (every-over (level_in a.dir.now) l.i a.n (omega arith)) ∙ l.invariant.1 ∙ sym (points-level a.n a.dir.now)
+    sym (every-over (level_in a.dir.now) c.loop-i.i a.n (omega arith)) ∙ c.loop-i.invariant.1 ∙ sym (points-level a.n a.dir.now)

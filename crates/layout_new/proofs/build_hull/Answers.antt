@@ -14,13 +14,12 @@ abbrev lent : tie.Start → Active
 lent s = held_in s.args.out.now s.args.dir.now s.args.n
 
 -- what `close` made where no list was too long
-made-here : (w : Else-ended) → Made (speakers_of (lent w)) w.close-ended.result
-made-here w = made (lent w) w.close-ended.result w.close-ended.ensures w.if-ended.false
+made-here : (w : Else-ended) → Made (speakers_of (lent w.before.before)) w.close-ended.result
+made-here w = made (lent w.before.before) w.close-ended.result w.close-ended.ensures w.if-ended.false
 
 pub returns-then-ended : goal.returns-then-ended
 returns-then-ended c =
-    let e = c.close-ended in
-    c.refused.ensures ∙ hull_refused c.args.outputs (speakers_of (lent (goal.at.returns-then-ended c).Start)) (sym (over_is (lent (goal.at.returns-then-ended c).Start) e.result e.ensures) ∙ c.if-ended.true)
+    c.refused.ensures ∙ hull_refused c.args.outputs (speakers_of (lent (goal.at.returns-then-ended c).Start)) (sym (over_is (lent (goal.at.returns-then-ended c).Start) c.close-ended.result c.close-ended.ensures) ∙ c.if-ended.true)
 
 pub overflow_add-n : goal.overflow_add-n
 overflow_add-n c =
@@ -46,11 +45,9 @@ returns c =
     let a = lent (goal.at.returns c).Start in
     let act = speakers_of a in
     let m = made-here (goal.at.returns c).Else-ended in
-    let r = c.close-ended.result in
-    let found = c.neighbours-nbrs in
-    let imag = imag_length a c.requires r m in
+    let imag = imag_length a c.requires c.close-ended.result m in
     hull_accepted c.args.outputs act m.fits
     (laid_hull c.args.outputs (build_hull_of act) c.no_pairs-pairs.ensures (sym (slots_count act ∙ count_is a))
     (out_is a c.requires) (c.narrowed-pt_dir.ensures ∙ narrowed_are a c.requires) m.count m.idx m.inv imag
-    (num_nbrs_are a c.requires r m found.result found.ensures) (imag_nbrs_are a c.requires r m found.result found.ensures))
+    (num_nbrs_are a c.requires c.close-ended.result m c.neighbours-nbrs.result c.neighbours-nbrs.ensures) (imag_nbrs_are a c.requires c.close-ended.result m c.neighbours-nbrs.result c.neighbours-nbrs.ensures))
     imag

@@ -16,17 +16,16 @@ pub returns-then-lfe-k : goal.returns-then-lfe-k
 returns-then-lfe-k c =
     let a = c.args in
     let l = a.lfe.now in
-    let k = c.loop-k.k in
-    sym (any_yes (λ q. eqb q a.i) l (length l) k 0 (omega arith) (omega arith) (eq-eqb _ a.i c.if-lfe-k.true))
+    sym (any_yes (λ q. eqb q a.i) l (length l) c.loop-k.k 0 (omega arith) (omega arith) (eq-eqb _ a.i c.if-lfe-k.true))
     ∙ c.loop-k.invariant.1 ∙ ap (member a.i) (take-length l)
 
 pub loop-k-preserved : goal.loop-k-preserved
 loop-k-preserved c =
     let a = c.args in
     let l = a.lfe.now in
-    let k = c.loop-k.k in (
+    (
       omega arith,
-      sym (any_no (λ q. eqb q a.i) l (length l) k 0 (omega arith) (omega arith) (ne_eqb _ a.i c.if-lfe-k.false)) ∙ c.loop-k.invariant.1,
+      sym (any_no (λ q. eqb q a.i) l (length l) c.loop-k.k 0 (omega arith) (omega arith) (ne_eqb _ a.i c.if-lfe-k.false)) ∙ c.loop-k.invariant.1,
     )
 
 pub returns : goal.returns

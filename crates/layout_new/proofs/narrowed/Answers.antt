@@ -35,11 +35,9 @@ loop-i-init c = (omega arith, narrowed_none c.args.dir.now)
 
 pub loop-i-preserved : goal.loop-i-preserved
 loop-i-preserved c =
-    let l = c.loop-i in
-    (omega arith, narrowed-more c.args.dir.now l.i _ _ (omega arith) c.requires.1 l.invariant.1 c.narrow.ensures)
+    (omega arith, narrowed-more c.args.dir.now c.loop-i.i _ _ (omega arith) c.requires.1 c.loop-i.invariant.1 c.narrow.ensures)
 
 pub returns : goal.returns
 returns c =
-    let l = c.loop-i in
-    let e : l.i ≡ c.args.n * 3 = omega arith in
-    l.invariant.1 ∙ ap (λ (k : ℕ). filled 120 +0 (map narrow_of (take k c.args.dir.now))) e
+    let e : c.loop-i.i ≡ c.args.n * 3 = omega arith in
+    c.loop-i.invariant.1 ∙ ap (λ (k : ℕ). filled 120 +0 (map narrow_of (take k c.args.dir.now))) e

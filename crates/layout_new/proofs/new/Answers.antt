@@ -23,7 +23,7 @@ held w = held_in w.active-speakers.new.0 w.active-speakers.new.1.0 w.active-spea
 
 module _ (w : After-active_speakers-n) where
   abbrev given : tie.Start
-  given = w
+  given = w.before.before.before.before.before.before.before
 
   abbrev p : List Float
   p = given.args.positions.now

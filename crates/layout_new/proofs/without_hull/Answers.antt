@@ -22,6 +22,5 @@ unfolding planar_in speakers_of of_bits
 returns c =
     λ s p.
     let a = held_in c.args.out.now c.args.dir.now c.args.n in
-    let made = c.build_planar-made.ensures in
     ap (λ (v : VbapPanner). record { number = 0; panner = v; imaginary = 0 })
-    (laid_parts c.args.outputs s p (ap (λ (q : Planar). q.num_pairs) made) (ap (λ (q : Planar). q.pairs) made) (sym (slots_count (speakers_of a) ∙ count_is a)) c.requires.slots)
+    (laid_parts c.args.outputs s p (ap (λ (q : Planar). q.num_pairs) c.build_planar-made.ensures) (ap (λ (q : Planar). q.pairs) c.build_planar-made.ensures) (sym (slots_count (speakers_of a) ∙ count_is a)) c.requires.slots)

@@ -32,7 +32,7 @@ joined_at : (p : After-pair_of-joined)
     → p.pair_of-joined.result ≡ joined_of (pair_at (take p.args.n p.sorted-a.result) p.loop-i.i)
 joined_at p =
     rw (p.pair_of-joined.ensures, p.gap_at.ensures)
-    (ap joined_of (pair_front p.sorted-a.result p.args.n p.loop-i.i p.loop-i-test.true (fits p)))
+    (ap joined_of (pair_front p.sorted-a.result p.args.n p.loop-i.i p.loop-i-test.true (fits p.before.before.before.before.before.before)))
 
 pub spots-requires : goal.spots-requires
 spots-requires c = c.requires
@@ -48,12 +48,8 @@ bounds-a-j c = omega (arith, next_below c.args.n c.loop-i.i c.loop-i-test.true)
 
 pub pair_of-joined-requires : goal.pair_of-joined-requires
 pair_of-joined-requires c =
-    let h = c.loop-i-test.true in
-    let n = c.args.n in
-    let i = c.loop-i.i in
-    let a = c.sorted-a.result in
-    let e : every slot_fits (take n a) ≡ true = rw (front (goal.at.pair_of-joined-requires c).At-loop-i) (ring_slots_lem _ _ n c.spots.ensures.slots) in
-    ((front_slot a n i h (fits (goal.at.pair_of-joined-requires c).At-loop-i) i h e, front_slot a n i h (fits (goal.at.pair_of-joined-requires c).At-loop-i) ((i + 1) % n) (next_below n i h) e), (c.loop-i.invariant.2 h, turned (goal.at.pair_of-joined-requires c).After-sin_cos-next))
+    let e : every slot_fits (take c.args.n c.sorted-a.result) ≡ true = rw (front (goal.at.pair_of-joined-requires c).At-loop-i) (ring_slots_lem _ _ c.args.n c.spots.ensures.slots) in
+    record { s_value = (front_slot c.sorted-a.result c.args.n c.loop-i.i c.loop-i-test.true (fits (goal.at.pair_of-joined-requires c).At-loop-i) c.loop-i.i c.loop-i-test.true e, front_slot c.sorted-a.result c.args.n c.loop-i.i c.loop-i-test.true (fits (goal.at.pair_of-joined-requires c).At-loop-i) ((c.loop-i.i + 1) % c.args.n) (next_below c.args.n c.loop-i.i c.loop-i-test.true) e); a_value = (c.loop-i.invariant.2 c.loop-i-test.true, turned (goal.at.pair_of-joined-requires c).After-sin_cos-next) }
 
 pub loop-i-preserved-in_default : goal.loop-i-preserved-in_default
 loop-i-preserved-in_default c =

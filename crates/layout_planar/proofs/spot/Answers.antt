@@ -6,4 +6,4 @@ use Rattle.layout_planar.proofs.spot.Goals as goal
 
 pub returns : goal.returns
 unfolding spot_of slot_fits
-returns c = (cc, lt-ltb c.args.slot 256 (omega arith))
+returns c = record { is = cc; slot = lt-ltb c.args.slot 256 (omega arith) }

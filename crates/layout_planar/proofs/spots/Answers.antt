@@ -21,4 +21,4 @@ loop-i-preserved c =
 pub returns : goal.returns
 returns c =
     let e : c.loop-i.i ≡ c.args.n = omega arith in
-    (rw (← e) c.loop-i.invariant.1, rw (← e) c.loop-i.invariant.2)
+    record { are = rw (← e) c.loop-i.invariant.1; slots = rw (← e) c.loop-i.invariant.2 }

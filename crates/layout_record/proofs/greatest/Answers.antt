@@ -17,21 +17,14 @@ loop-i-init c = (omega arith, refl)
 
 pub loop-i-preserved : goal.loop-i-preserved
 loop-i-preserved c =
-    let xs = c.args.xs.now in
-    let i = c.loop-i.i in
-    let m = c.loop-i.m in
-    let inv = c.loop-i.invariant.1 in
-    let n = c.if-m-xs.m in
-    let more : every (λ x. leb x n) (take (suc i) xs) ≡ true =
+    let more : every (λ x. leb x c.if-m-xs.m) (take (suc c.loop-i.i) c.args.xs.now) ≡ true =
     ⊎_elim
-    (λ w. below_snoc n xs i (omega arith) (omega arith) (below_more m n (take i xs) (omega arith) inv))
-    (λ w. below_snoc n xs i (omega arith) (omega arith) (below_more m n (take i xs) (omega arith) inv))
+    (λ w. below_snoc c.if-m-xs.m c.args.xs.now c.loop-i.i (omega arith) (omega arith) (below_more c.loop-i.m c.if-m-xs.m (take c.loop-i.i c.args.xs.now) (omega arith) c.loop-i.invariant.1))
+    (λ w. below_snoc c.if-m-xs.m c.args.xs.now c.loop-i.i (omega arith) (omega arith) (below_more c.loop-i.m c.if-m-xs.m (take c.loop-i.i c.args.xs.now) (omega arith) c.loop-i.invariant.1))
     c.if-m-xs.branch in
     (omega arith, rw add-one more)
 
 pub returns : goal.returns
 returns c =
-    let xs = c.args.xs.now in
-    let i = c.loop-i.i in
-    let h : length xs ≤ i = omega arith in
-    rw (take_all i xs h) at c.loop-i.invariant.1
+    let h : length c.args.xs.now ≤ c.loop-i.i = omega arith in
+    rw (take_all c.loop-i.i c.args.xs.now h) at c.loop-i.invariant.1

@@ -50,7 +50,6 @@ returns-in-Planar c =
 
 pub returns-in-Hull : goal.returns-in-Hull
 returns-in-Hull c =
-    let v = c.args.p in
-    let long : length v.idx ≡ 240 = c.hull_over.ensures.long in
-    let h : v.num_tris * 3 ≤ length v.idx = omega (arith, (within v (passed (goal.at.returns-in-Hull c).Else-counts_over)).tris) in
-    by-numbers (goal.at.returns-in-Hull c).Else-counts_over c.hull_over.ensures.value (out_hull v c.in-Hull.is h)
+    let long : length c.args.p.idx ≡ 240 = c.hull_over.ensures.long in
+    let h : c.args.p.num_tris * 3 ≤ length c.args.p.idx = omega (arith, (within c.args.p (passed (goal.at.returns-in-Hull c).Else-counts_over)).tris) in
+    by-numbers (goal.at.returns-in-Hull c).Else-counts_over c.hull_over.ensures.value (out_hull c.args.p c.in-Hull.is h)

@@ -10,5 +10,5 @@ use Rattle.layout_record.proofs.nbrs_over.Goals as goal
 
 pub returns : goal.returns
 returns c =
-    let h : length c.args.t1 ≤ 14 = omega (arith, c.well_formed.0.1.0.1) in
-    c.over.ensures ∙ ap (any (λ x. leb 41 x)) (take_all 14 c.args.t1 h)
+    let h : length c.args.xs ≤ 14 = omega (arith, c.well_formed.0.1.0.1) in
+    c.over.ensures ∙ ap (any (λ x. leb 41 x)) (take_all 14 c.args.xs h)

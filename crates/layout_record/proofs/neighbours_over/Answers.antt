@@ -11,11 +11,8 @@ use Rattle.lists.proofs.Ranges.{between_cons, between_none, range_between}
 use Rattle.lists.proofs.Tests.{any_flat_map, every_get_d}
 use Rattle.layout_record.proofs.Bounds.{used_parts_below}
 use Rattle.layout_record.proofs.neighbours_over.Goals as goal
+use Rattle.layout_record.proofs.neighbours_over.Invariants.{out}
 use Rattle.layout_record.proofs.neighbours_over.Goals.{After-over-arg-in-loop-k-1}
-
--- an imaginary point of whose neighbours one is not below the bound
-abbrev out : ℕ → List ℕ → List ℕ → ℕ → Bool
-out bound counts xs k = any (λ x. leb bound x) (take (get_or counts k 0) (part 40 xs k))
 
 -- the test of the neighbours is the test of the points
 neighbours-any : (bound : ℕ) (counts xs : List ℕ) (n : ℕ)
@@ -54,31 +51,28 @@ count_fits c =
     leb-true _ 40 (every_get_d (λ x. leb x 40) c.args.counts.now c.loop-k.k 0 refl c.requires.1)
 
 pub overflow_cast-counts : goal.overflow_cast-counts
-overflow_cast-counts c = omega (arith, count_fits (goal.at.overflow_cast-counts c).After-over-arg-in-loop-k-1)
+overflow_cast-counts c = omega (arith, count_fits c)
 
 pub over-requires : goal.over-requires
-over-requires c = omega (arith, count_fits (goal.at.over-requires c).After-over-arg-in-loop-k-1, c.over-arg-1.given.2)
+over-requires c = omega (arith, count_fits c, c.over-arg-1.given.2)
 
 pub returns-then-over : goal.returns-then-over
 returns-then-over c =
-    let l = c.loop-k in
-    let e : out c.args.bound c.args.counts.now c.args.xs.now l.k ≡ true =
-    out-here c.args.bound c.args.counts.now c.args.xs.now l.k ∙ sym c.over.ensures ∙ c.if-over.true in
-    sym (any-cons (out c.args.bound c.args.counts.now c.args.xs.now) l.k c.args.n (omega arith) ∙ rw e refl)
-    ∙ l.invariant.2 ∙ sym (neighbours-any c.args.bound c.args.counts.now c.args.xs.now c.args.n)
+    let e : out c.args.bound c.args.counts.now c.args.xs.now c.loop-k.k ≡ true =
+    out-here c.args.bound c.args.counts.now c.args.xs.now c.loop-k.k ∙ sym c.over.ensures ∙ c.if-over.true in
+    sym (any-cons (out c.args.bound c.args.counts.now c.args.xs.now) c.loop-k.k c.args.n (omega arith) ∙ rw e refl)
+    ∙ c.loop-k.invariant.2 ∙ sym (neighbours-any c.args.bound c.args.counts.now c.args.xs.now c.args.n)
 
 pub loop-k-preserved : goal.loop-k-preserved
 loop-k-preserved c =
-    let l = c.loop-k in
-    let e : out c.args.bound c.args.counts.now c.args.xs.now l.k ≡ false =
-    out-here c.args.bound c.args.counts.now c.args.xs.now l.k ∙ sym c.over.ensures ∙ c.if-over.false in (
+    let e : out c.args.bound c.args.counts.now c.args.xs.now c.loop-k.k ≡ false =
+    out-here c.args.bound c.args.counts.now c.args.xs.now c.loop-k.k ∙ sym c.over.ensures ∙ c.if-over.false in (
       omega arith,
       refl,
-      sym (any-cons (out c.args.bound c.args.counts.now c.args.xs.now) l.k c.args.n (omega arith) ∙ rw e refl) ∙ l.invariant.2,
+      sym (any-cons (out c.args.bound c.args.counts.now c.args.xs.now) c.loop-k.k c.args.n (omega arith) ∙ rw e refl) ∙ c.loop-k.invariant.2,
     )
 
 pub returns : goal.returns
 returns c =
-    let l = c.loop-k in
-    sym (any-over (out c.args.bound c.args.counts.now c.args.xs.now) l.k c.args.n c.loop-k-test.false)
-    ∙ l.invariant.2 ∙ sym (neighbours-any c.args.bound c.args.counts.now c.args.xs.now c.args.n)
+    sym (any-over (out c.args.bound c.args.counts.now c.args.xs.now) c.loop-k.k c.args.n c.loop-k-test.false)
+    ∙ c.loop-k.invariant.2 ∙ sym (neighbours-any c.args.bound c.args.counts.now c.args.xs.now c.args.n)

@@ -8,13 +8,11 @@ use Rattle.layout_record.proofs.num_outputs.Goals as goal
 pub returns-then-malformed : goal.returns-then-malformed
 unfolding num_outputs_of
 returns-then-malformed c =
-    let n = c.args.p.num_outputs in
-    let pick : Bool → Outputs = λ b. cond b (record { number = 11; count = 0 }) (record { number = 0; count = n }) in
+    let pick : Bool → Outputs = λ b. cond b (record { number = 11; count = 0 }) (record { number = 0; count = c.args.p.num_outputs }) in
     sym (ap pick (sym c.malformed.ensures ∙ c.if-malformed.true))
 
 pub returns : goal.returns
 unfolding num_outputs_of
 returns c =
-    let n = c.args.p.num_outputs in
-    let pick : Bool → Outputs = λ b. cond b (record { number = 11; count = 0 }) (record { number = 0; count = n }) in
+    let pick : Bool → Outputs = λ b. cond b (record { number = 11; count = 0 }) (record { number = 0; count = c.args.p.num_outputs }) in
     sym (ap pick (sym c.malformed.ensures ∙ c.if-malformed.false))

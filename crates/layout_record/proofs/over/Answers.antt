@@ -18,21 +18,19 @@ loop-i-init c = (omega arith, refl)
 pub returns-then-bound-xs : goal.returns-then-bound-xs
 returns-then-bound-xs c =
     let a = c.args in
-    let l = c.loop-i in
-    sym (any_yes (λ x. leb a.bound x) a.xs.now a.n l.i 0 (omega arith) (omega arith) (le-leb a.bound _ c.if-bound-xs.true))
-    ∙ l.invariant.1
+    sym (any_yes (λ x. leb a.bound x) a.xs.now a.n c.loop-i.i 0 (omega arith) (omega arith) (le-leb a.bound _ c.if-bound-xs.true))
+    ∙ c.loop-i.invariant.1
 
 pub loop-i-preserved : goal.loop-i-preserved
 loop-i-preserved c =
     let a = c.args in
-    let l = c.loop-i in (
+    (
       omega arith,
-      sym (any_no (λ x. leb a.bound x) a.xs.now a.n l.i 0 (omega arith) (omega arith) (lt-leb a.bound _ c.if-bound-xs.false))
-          ∙ l.invariant.1,
+      sym (any_no (λ x. leb a.bound x) a.xs.now a.n c.loop-i.i 0 (omega arith) (omega arith) (lt-leb a.bound _ c.if-bound-xs.false))
+          ∙ c.loop-i.invariant.1,
     )
 
 pub returns : goal.returns
 returns c =
     let a = c.args in
-    let l = c.loop-i in
-    sym (any_end (λ x. leb a.bound x) a.xs.now a.n l.i c.loop-i-test.false (omega arith)) ∙ l.invariant.1
+    sym (any_end (λ x. leb a.bound x) a.xs.now a.n c.loop-i.i c.loop-i-test.false (omega arith)) ∙ c.loop-i.invariant.1

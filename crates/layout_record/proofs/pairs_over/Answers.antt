@@ -13,4 +13,4 @@ unfolding range from
 returns-then-n-le8 c =
     let a = c.args in
     c.few_over.ensures
-    ∙ ap (λ (l : List PlanarPair). any (λ x. leb a.bound x) (flat_map (λ p. p.a ∷ p.b ∷ []) l)) (take_front a.t1 _ 8 a.n c.if-n-le8.true (omega (arith, c.well_formed.0.1.0.1)))
+    ∙ ap (λ (l : List PlanarPair). any (λ x. leb a.bound x) (flat_map (λ p. p.a ∷ p.b ∷ []) l)) (take_front a.ps _ 8 a.n c.if-n-le8.true (omega (arith, c.well_formed.0.1.0.1)))

@@ -23,11 +23,10 @@ mix_source-requires c =
 pub loop-i-preserved : goal.loop-i-preserved
 unfolding ramp_source
 loop-i-preserved c =
-    let m = c.mix_source in
     let s = c.args in (
       omega arith,
-      m.auto.1.1.1.1.1.1.0 ∙ c.loop-i.invariant.1,
-      m.ensures ∙ turns_more (ramp_source s.block s.outputs s.samples.now s.from.now s.to.now) s.out.now c.loop-i.i c.loop-i.invariant.2,
+      c.mix_source.auto.1.1.1.1.1.1.0 ∙ c.loop-i.invariant.1,
+      c.mix_source.ensures ∙ turns_more (ramp_source s.block s.outputs s.samples.now s.from.now s.to.now) s.out.now c.loop-i.i c.loop-i.invariant.2,
     )
 
 pub shape_of-out : goal.shape_of-out

@@ -20,31 +20,30 @@ pub loop-o-init : goal.loop-o-init
 loop-o-init c = (omega arith, refl, sym (turns_none _ _))
 
 pub overflow_mul-a : goal.overflow_mul-a
-overflow_mul-a c = omega (arith, within (goal.at.overflow_mul-a c).In-loop-o)
+overflow_mul-a c = omega (arith, within c)
 
 pub overflow_add-e : goal.overflow_add-e
-overflow_add-e c = omega (arith, within (goal.at.overflow_add-e c).In-loop-o)
+overflow_add-e c = omega (arith, within c)
 
 pub offset_bounds-out-a : goal.offset_bounds-out-a
-offset_bounds-out-a c = omega (arith, within (goal.at.offset_bounds-out-a c).In-loop-o)
+offset_bounds-out-a c = omega (arith, within c)
 
 pub slice_bounds-ramp_add-count : goal.slice_bounds-ramp_add-count
-slice_bounds-ramp_add-count c = omega (arith, within (goal.at.slice_bounds-ramp_add-count c).In-loop-o)
+slice_bounds-ramp_add-count c = omega (arith, within c)
 
 pub slice_bounds-ramp_add-end : goal.slice_bounds-ramp_add-end
-slice_bounds-ramp_add-end c = within (goal.at.slice_bounds-ramp_add-end c).In-loop-o
+slice_bounds-ramp_add-end c = within c
 
 pub slice_bounds-ramp_add-end-in-loop-o : goal.slice_bounds-ramp_add-end-in-loop-o
 slice_bounds-ramp_add-end-in-loop-o c = c.requires.2
 
 pub loop-o-preserved : goal.loop-o-preserved
 loop-o-preserved c =
-    let r = c.ramp_add in
     let s = c.args in
     let k = s.block in
-    let e = part_back k s.samples.now s.from.now s.to.now s.i c.loop-o.out r.new.0 c.loop-o.o r.ensures in (
+    let e = part_back k s.samples.now s.from.now s.to.now s.i c.loop-o.out c.ramp_add.new.dst c.loop-o.o c.ramp_add.ensures in (
       omega arith,
-      same_len_mid (c.loop-o.o * k) (c.loop-o.o * k + k - c.loop-o.o * k) c.loop-o.out r.new.0 r.auto.0 ∙ c.loop-o.invariant.1,
+      same_len_mid (c.loop-o.o * k) (c.loop-o.o * k + k - c.loop-o.o * k) c.loop-o.out c.ramp_add.new.dst c.ramp_add.auto.dst ∙ c.loop-o.invariant.1,
       e ∙ turns_more (ramp_part k s.samples.now s.from.now s.to.now s.i) s.out.now c.loop-o.o c.loop-o.invariant.2,
     )
 

@@ -8,6 +8,5 @@ use Rattle.mix_gain.proofs.norm_sq.Goals as goal
 pub returns : goal.returns
 unfolding norm_sq_of of_bits
 returns c =
-    let t = c.args.t in
-    let u = sub binary32 1·0 t in
-    ap (λ (d : Float). add binary32 (add binary32 (mul binary32 u u) (mul binary32 t t)) (mul binary32 (mul binary32 (mul binary32 2·0 t) u) d)) c.clamp-d.ensures
+    let u = sub binary32 1·0 c.args.t in
+    ap (λ (d : Float). add binary32 (add binary32 (mul binary32 u u) (mul binary32 c.args.t c.args.t)) (mul binary32 (mul binary32 (mul binary32 2·0 c.args.t) u) d)) c.clamp-d.ensures

@@ -16,7 +16,7 @@ loop-i-preserved c =
     let s = c.args in
     (
       omega arith,
-      c.store.auto.0 ∙ c.loop-i.invariant.1,
+      c.store.auto.d ∙ c.loop-i.invariant.1,
       c.onward-next.ensures ∙ counts_onward c.loop-i.i (omega arith) c.loop-i.invariant.2,
       c.store.ensures
           ∙ eight_turns s.src.now c.loop-i.dst s.g0 s.step c.loop-i.i c.load-s.ensures c.load-d.ensures c.loop-i.invariant.2 c.mixed.ensures
@@ -27,4 +27,4 @@ pub shape_of-dst : goal.shape_of-dst
 shape_of-dst c = c.loop-i.invariant.1
 
 pub returns : goal.returns
-returns c = (omega arith, c.loop-i.invariant.3)
+returns c = record { within = omega arith; mixed = c.loop-i.invariant.3 }

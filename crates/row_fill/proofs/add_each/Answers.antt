@@ -16,11 +16,10 @@ loop-j-init c =
 pub loop-j-preserved : goal.loop-j-preserved
 loop-j-preserved c =
     let a = c.args in
-    let l = c.loop-j in
-    let k = c.add_at in (
+    (
       omega arith,
-      k.auto.0 ∙ l.invariant.1,
-      k.ensures ∙ ap (λ (r : List Float). add_at r (get_or a.slots.now l.j 0) a.w) l.invariant.2 ∙ each_more a.w a.out.now a.slots.now l.j (omega arith),
+      c.add_at.auto.row ∙ c.loop-j.invariant.1,
+      c.add_at.ensures ∙ ap (λ (r : List Float). add_at r (get_or a.slots.now c.loop-j.j 0) a.w) c.loop-j.invariant.2 ∙ each_more a.w a.out.now a.slots.now c.loop-j.j (omega arith),
     )
 
 pub shape_of-out : goal.shape_of-out
@@ -29,6 +28,5 @@ shape_of-out c = c.loop-j.invariant.1
 pub returns : goal.returns
 returns c =
     let a = c.args in
-    let l = c.loop-j in
-    let e : l.j ≡ a.n = omega arith in
-    rw e at l.invariant.2
+    let e : c.loop-j.j ≡ a.n = omega arith in
+    rw e at c.loop-j.invariant.2

@@ -22,5 +22,5 @@ unfolding imag_points of_bits
 returns c =
     let a = c.args in
     c.to_imag.ensures
-    ∙ ap (λ (r : List Float). to_imag a.n r (get_or a.idx.now (a.t * 3 + 2) 0) (get_or a.t4 2 nan))
-    (c.to_imag-two.ensures ∙ ap (λ (r : List Float). to_imag a.n r (get_or a.idx.now (a.t * 3 + 1) 0) (get_or a.t4 1 nan)) c.to_imag-one.ensures)
+    ∙ ap (λ (r : List Float). to_imag a.n r (get_or a.idx.now (a.t * 3 + 2) 0) (get_or a.g 2 nan))
+    (c.to_imag-two.ensures ∙ ap (λ (r : List Float). to_imag a.n r (get_or a.idx.now (a.t * 3 + 1) 0) (get_or a.g 1 nan)) c.to_imag-one.ensures)

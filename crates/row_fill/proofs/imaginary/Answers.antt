@@ -8,4 +8,4 @@ use Rattle.row_fill.proofs.imaginary.Goals as goal
 pub returns : goal.returns
 returns c =
     let a = c.args in
-    c.share_out.ensures ∙ ap (λ (i : List Float). shared_out a.t4 a.t5 i a.num-imag a.out.now) c.imag_points-imag.ensures
+    c.share_out.ensures ∙ ap (λ (i : List Float). shared_out a.counts a.nbrs i a.num_imag a.out.now) c.imag_points-imag.ensures

@@ -18,7 +18,7 @@ pub overflow_cast-idx-3 : goal.overflow_cast-idx-3
 overflow_cast-idx-3 c = omega (arith, c.shared_slice_known-5-1.given (c.args.t * 3 + 2))
 
 pub shape_of-out : goal.shape_of-out
-shape_of-out c = c.to_real-3.auto.0 ∙ c.to_real-2.auto.0 ∙ c.to_real.auto.0
+shape_of-out c = c.to_real-3.auto.out ∙ c.to_real-2.auto.out ∙ c.to_real.auto.out
 
 pub returns : goal.returns
 unfolding real_points
@@ -26,5 +26,5 @@ returns c =
     let a = c.args in
     let o = take a.n a.slots.now in
     c.to_real-3.ensures
-    ∙ ap (λ (r : List Float). to_real o r (get_or a.idx.now (a.t * 3 + 2) 0) (get_or a.t6 2 nan))
-    (c.to_real-2.ensures ∙ ap (λ (r : List Float). to_real o r (get_or a.idx.now (a.t * 3 + 1) 0) (get_or a.t6 1 nan)) c.to_real.ensures)
+    ∙ ap (λ (r : List Float). to_real o r (get_or a.idx.now (a.t * 3 + 2) 0) (get_or a.g 2 nan))
+    (c.to_real-2.ensures ∙ ap (λ (r : List Float). to_real o r (get_or a.idx.now (a.t * 3 + 1) 0) (get_or a.g 1 nan)) c.to_real.ensures)

@@ -14,7 +14,7 @@ use Rattle.row_fill.proofs.share_out.Goals.{After-shared_slice_known-in-loop-k-1
 pub loop-k-init : goal.loop-k-init
 loop-k-init c =
     let a = c.args in
-    (zero-le, refl, shared_none a.counts.now a.nbrs.now a.t4 a.out.now)
+    (zero-le, refl, shared_none a.counts.now a.nbrs.now a.imag a.out.now)
 
 -- a count of neighbours is at most 40
 count_fits : (c : After-shared_slice_known-in-loop-k-1) → get_or c.args.counts.now c.loop-k.k 0 ≤ 40
@@ -22,20 +22,18 @@ count_fits c =
     leb-true _ 40 (every_at (λ x. leb x 40) c.args.counts.now c.loop-k.k 0 c.requires.3 (omega arith))
 
 pub overflow_cast-counts : goal.overflow_cast-counts
-overflow_cast-counts c = omega (arith, count_fits (goal.at.overflow_cast-counts c).After-shared_slice_known-in-loop-k-1)
+overflow_cast-counts c = omega (arith, count_fits c)
 
 pub share-requires : goal.share-requires
-share-requires c = omega (arith, count_fits (goal.at.share-requires c).After-shared_slice_known-in-loop-k-1, c.share-arg-in-loop-k-1.given.2)
+share-requires c = omega (arith, count_fits c, c.share-arg-in-loop-k-1.given.2)
 
 pub loop-k-preserved : goal.loop-k-preserved
 loop-k-preserved c =
     let a = c.args in
-    let l = c.loop-k in
-    let k = c.share in
-    let nbrs = take (get_or a.counts.now l.k 0) (take (l.k * 40 + 40 - l.k * 40) (drop (l.k * 40) a.nbrs.now)) in (
+    let nbrs = take (get_or a.counts.now c.loop-k.k 0) (take (c.loop-k.k * 40 + 40 - c.loop-k.k * 40) (drop (c.loop-k.k * 40) a.nbrs.now)) in (
       omega arith,
-      k.auto.0 ∙ l.invariant.1,
-      k.ensures ∙ ap (shared_by nbrs (get_or a.t4 l.k nan)) l.invariant.2 ∙ shared_more a.counts.now a.nbrs.now a.t4 a.out.now l.k,
+      c.share.auto.out ∙ c.loop-k.invariant.1,
+      c.share.ensures ∙ ap (shared_by nbrs (get_or a.imag c.loop-k.k nan)) c.loop-k.invariant.2 ∙ shared_more a.counts.now a.nbrs.now a.imag a.out.now c.loop-k.k,
     )
 
 pub shape_of-out : goal.shape_of-out
@@ -44,6 +42,5 @@ shape_of-out c = c.loop-k.invariant.1
 pub returns : goal.returns
 returns c =
     let a = c.args in
-    let l = c.loop-k in
-    let e : l.k ≡ a.n = omega arith in
-    rw e at l.invariant.2
+    let e : c.loop-k.k ≡ a.n = omega arith in
+    rw e at c.loop-k.invariant.2

@@ -51,34 +51,30 @@ pub returns-in-Silent : goal.returns-in-Silent
 unfolding counts_over
 returns-in-Silent c =
     let a = c.args in
-    let k = c.in-Silent.is in
-    finished a.panner a.az a.el a.out.now _ c.lesser-n.ensures (sym c.counts_over.ensures ∙ c.if-counts_over.false) _ _ _ refl refl (row_silent a.panner _ _ _ k) _ _ _
-    (out_silent a.panner k) (record { answer = refl; places = c.zero.ensures })
+    finished a.panner a.az a.el a.out.now _ c.lesser-n.ensures (sym c.counts_over.ensures ∙ c.if-counts_over.false) _ _ _ refl refl (row_silent a.panner _ _ _ c.in-Silent.is) _ _ _
+    (out_silent a.panner c.in-Silent.is) (record { answer = refl; places = c.zero.ensures })
 
 pub returns-in-Mono : goal.returns-in-Mono
 unfolding counts_over
 returns-in-Mono c =
     let a = c.args in
-    let k = c.in-Mono.is in
-    finished a.panner a.az a.el a.out.now _ c.lesser-n.ensures (sym c.counts_over.ensures ∙ c.if-counts_over.false) _ _ _ refl refl (row_mono a.panner _ _ _ k) _ _ _
-    (out_mono a.panner k) c.mono.ensures
+    finished a.panner a.az a.el a.out.now _ c.lesser-n.ensures (sym c.counts_over.ensures ∙ c.if-counts_over.false) _ _ _ refl refl (row_mono a.panner _ _ _ c.in-Mono.is) _ _ _
+    (out_mono a.panner c.in-Mono.is) c.mono.ensures
 
 pub returns-in-Planar : goal.returns-in-Planar
 unfolding counts_over
 returns-in-Planar c =
     let a = c.args in
-    let k = c.in-Planar.is in
-    finished a.panner a.az a.el a.out.now _ c.lesser-n.ensures (sym c.counts_over.ensures ∙ c.if-counts_over.false) _ _ _ c.finite_or_0.ensures c.finite_or_0-in-Planar.ensures (row_planar a.panner _ _ _ k) _ _ _
-    (out_planar a.panner k) c.planar.ensures
+    finished a.panner a.az a.el a.out.now _ c.lesser-n.ensures (sym c.counts_over.ensures ∙ c.if-counts_over.false) _ _ _ c.finite_or_0.ensures c.finite_or_0-in-Planar.ensures (row_planar a.panner _ _ _ c.in-Planar.is) _ _ _
+    (out_planar a.panner c.in-Planar.is) c.planar.ensures
 
 pub returns-in-Hull : goal.returns-in-Hull
 unfolding counts_over
 returns-in-Hull c =
     let a = c.args in
     let v = a.panner in
-    let k = c.in-Hull.is in
     let w = (sym c.counts_over.ensures ∙ c.if-counts_over.false) in
     let long : length v.idx ≡ 240 = c.hull.ensures.long in
     let h : v.num_tris * 3 ≤ length v.idx = omega (arith, (within v w).tris) in
-    finished v a.az a.el a.out.now _ c.lesser-n.ensures w _ _ _ c.finite_or_0-in-Hull.ensures c.finite_or_0-in-Hull-2.ensures (row_hull v _ _ _ k) _ _ _
-    (out_hull v k h) c.hull.ensures.checked
+    finished v a.az a.el a.out.now _ c.lesser-n.ensures w _ _ _ c.finite_or_0-in-Hull.ensures c.finite_or_0-in-Hull-2.ensures (row_hull v _ _ _ c.in-Hull.is) _ _ _
+    (out_hull v c.in-Hull.is h) c.hull.ensures.checked

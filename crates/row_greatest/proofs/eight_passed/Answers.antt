@@ -12,16 +12,14 @@ loop-k-init c = let a = c.args in (omega arith, λ e. passed_none a.g a.l.now a.
 pub loop-k-preserved : goal.loop-k-preserved
 loop-k-preserved c =
     let a = c.args in
-    let l = c.loop-k in
-    let e : a.t + l.k + 1 ≡ a.t + (l.k + 1) = omega arith in (
+    let e : a.t + c.loop-k.k + 1 ≡ a.t + (c.loop-k.k + 1) = omega arith in (
       omega arith,
       λ h.
           subst (AllPassed a.g a.l.now a.t) e
-          (passed_more a.g a.l.now a.t (a.t + l.k) (l.invariant.1 (and_left l.all _ h)) (sym c.is_passed-all.ensures ∙ and_right l.all _ h)),
+          (passed_more a.g a.l.now a.t (a.t + c.loop-k.k) (c.loop-k.invariant.1 (and_left c.loop-k.all _ h)) (sym c.is_passed-all.ensures ∙ and_right c.loop-k.all _ h)),
     )
 
 pub returns : goal.returns
 returns c =
-    let l = c.loop-k in
-    let e : l.k ≡ 8 = omega arith in
-    rw e at l.invariant.1
+    let e : c.loop-k.k ≡ 8 = omega arith in
+    rw e at c.loop-k.invariant.1

@@ -7,13 +7,9 @@ use Rattle.row_greatest.proofs.first_greatest.Goals as goal
 pub returns-then-g : goal.returns-then-g
 unfolding div neg of_bits
 returns-then-g c =
-    let l = c.args.l.now in
-    let n = c.args.n in
-    found (take n l) _ (top_take l n c.requires _ c.top-g.ensures) c.if-g.true _ (kept_take l n c.requires _ _ c.first_kept.ensures) c.args.none
+    found (take c.args.n c.args.l.now) _ (top_take c.args.l.now c.args.n c.requires _ c.top-g.ensures) c.if-g.true _ (kept_take c.args.l.now c.args.n c.requires _ _ c.first_kept.ensures) c.args.none
 
 pub returns : goal.returns
 unfolding div neg of_bits
 returns c =
-    let l = c.args.l.now in
-    let n = c.args.n in
-    found_none c.args.none (take n l) _ (top_take l n c.requires _ c.top-g.ensures) c.if-g.false
+    found_none c.args.none (take c.args.n c.args.l.now) _ (top_take c.args.l.now c.args.n c.requires _ c.top-g.ensures) c.if-g.false

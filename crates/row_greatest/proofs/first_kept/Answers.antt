@@ -10,16 +10,13 @@ loop-t-init c = c.skipped-t.ensures
 
 pub returns-then-not-is_passed : goal.returns-then-not-is_passed
 returns-then-not-is_passed c =
-    let l = c.loop-t in
-    record { within = omega arith; before = l.invariant.1; kept = λ h. sym c.is_passed.ensures ∙ not-true _ c.if-not-is_passed.true-raw }
+    record { within = omega arith; before = c.loop-t.invariant.1; kept = λ h. sym c.is_passed.ensures ∙ not-true _ c.if-not-is_passed.true-raw }
 
 pub loop-t-preserved : goal.loop-t-preserved
 loop-t-preserved c =
     let a = c.args in
-    let l = c.loop-t in
-    (omega arith, passed_more a.g a.l.now 0 l.t l.invariant.1 (sym c.is_passed.ensures ∙ not-false _ c.if-not-is_passed.false-raw))
+    (omega arith, passed_more a.g a.l.now 0 c.loop-t.t c.loop-t.invariant.1 (sym c.is_passed.ensures ∙ not-false _ c.if-not-is_passed.false-raw))
 
 pub returns : goal.returns
 returns c =
-    let l = c.loop-t in
-    record { within = l.invariant.0; before = l.invariant.1; kept = λ h. absurd (omega arith) }
+    record { within = c.loop-t.invariant.0; before = c.loop-t.invariant.1; kept = λ h. absurd (omega arith) }

@@ -13,11 +13,9 @@ loop-i-init c = (omega arith, omega arith, top_none c.args.l.now c.args.from)
 pub loop-i-preserved : goal.loop-i-preserved
 loop-i-preserved c =
     let a = c.args in
-    let l = c.loop-i in
-    (omega arith, omega arith, subst (Top a.l.now a.from (l.i + 1)) (sym c.greater-g.ensures) (top_more a.l.now a.from l.i l.g l.invariant.0 l.invariant.2))
+    (omega arith, omega arith, subst (Top a.l.now a.from (c.loop-i.i + 1)) (sym c.greater-g.ensures) (top_more a.l.now a.from c.loop-i.i c.loop-i.g c.loop-i.invariant.0 c.loop-i.invariant.2))
 
 pub returns : goal.returns
 returns c =
-    let l = c.loop-i in
-    let e : l.i ≡ c.args.to = omega arith in
-    rw e at l.invariant.2
+    let e : c.loop-i.i ≡ c.args.to = omega arith in
+    rw e at c.loop-i.invariant.2

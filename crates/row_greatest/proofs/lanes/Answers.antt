@@ -12,12 +12,10 @@ loop-i-init c = (omega arith, lanes_none c.args.l.now)
 
 pub loop-i-preserved : goal.loop-i-preserved
 loop-i-preserved c =
-    let l = c.loop-i in
-    let e : l.i * 8 + 8 ≡ (l.i + 1) * 8 = omega arith in
+    let e : c.loop-i.i * 8 + 8 ≡ (c.loop-i.i + 1) * 8 = omega arith in
     (omega arith, subst (λ (n : ℕ). Lanes c.args.l.now n c.raised-r.result) e c.raised-r.ensures)
 
 pub returns : goal.returns
 returns c =
-    let l = c.loop-i in
-    let e : l.i ≡ c.args.eights = omega arith in
-    rw e at l.invariant.1
+    let e : c.loop-i.i ≡ c.args.eights = omega arith in
+    rw e at c.loop-i.invariant.1

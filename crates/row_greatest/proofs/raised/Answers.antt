@@ -15,18 +15,16 @@ loop-k-init c =
 pub loop-k-preserved : goal.loop-k-preserved
 loop-k-preserved c =
     let a = c.args in
-    let l = c.loop-k in
-    let e : a.t + l.k + 1 ≡ a.t + (l.k + 1) = omega arith in
-    let lane : (a.t + l.k) % 8 ≡ l.k = omega arith in (
+    let e : a.t + c.loop-k.k + 1 ≡ a.t + (c.loop-k.k + 1) = omega arith in
+    let lane : (a.t + c.loop-k.k) % 8 ≡ c.loop-k.k = omega arith in (
       omega arith,
-      simp length-set l.invariant.1,
-      subst (λ (n : ℕ). Lanes a.l.now n (set l.b l.k c.greater.result)) e
-          (subst (λ (x : Float). Lanes a.l.now (a.t + l.k + 1) (set l.b l.k x)) (sym c.greater.ensures)
-          (lanes_more a.l.now (a.t + l.k) l.k l.b l.invariant.1 lane l.invariant.2)),
+      simp length-set c.loop-k.invariant.1,
+      subst (λ (n : ℕ). Lanes a.l.now n (set c.loop-k.b c.loop-k.k c.greater.result)) e
+          (subst (λ (x : Float). Lanes a.l.now (a.t + c.loop-k.k + 1) (set c.loop-k.b c.loop-k.k x)) (sym c.greater.ensures)
+          (lanes_more a.l.now (a.t + c.loop-k.k) c.loop-k.k c.loop-k.b c.loop-k.invariant.1 lane c.loop-k.invariant.2)),
     )
 
 pub returns : goal.returns
 returns c =
-    let l = c.loop-k in
-    let e : l.k ≡ 8 = omega arith in
-    rw e at l.invariant.2
+    let e : c.loop-k.k ≡ 8 = omega arith in
+    rw e at c.loop-k.invariant.2

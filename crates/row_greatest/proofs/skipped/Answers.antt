@@ -15,8 +15,7 @@ returns-then-not-eight_passed c = c.loop-t.invariant
 pub loop-t-preserved : goal.loop-t-preserved
 loop-t-preserved c =
     let a = c.args in
-    let l = c.loop-t in
-    (omega arith, passed_join a.g a.l.now 0 l.t (l.t + 8) l.invariant.1 (c.eight_passed.ensures (not-false _ c.if-not-eight_passed.false-raw)))
+    (omega arith, passed_join a.g a.l.now 0 c.loop-t.t (c.loop-t.t + 8) c.loop-t.invariant.1 (c.eight_passed.ensures (not-false _ c.if-not-eight_passed.false-raw)))
 
 pub returns : goal.returns
 returns c = c.loop-t.invariant

@@ -17,13 +17,11 @@ pub loop-t-preserved : goal.loop-t-preserved
 unfolding leasts_of
 loop-t-preserved c =
     let a = c.args in
-    let l = c.loop-t in
-    let h : l.t < length l.m = omega arith in
-    (omega arith, simp length-set l.invariant.1, mapped_more (least_at a.s a.inv.now) l.m l.t _ h l.invariant.2 c.least.ensures)
+    let h : c.loop-t.t < length c.loop-t.m = omega arith in
+    (omega arith, simp length-set c.loop-t.invariant.1, mapped_more (least_at a.s a.inv.now) c.loop-t.m c.loop-t.t _ h c.loop-t.invariant.2 c.least.ensures)
 
 pub returns : goal.returns
 returns c =
     let a = c.args in
-    let l = c.loop-t in
-    let e : l.t ≡ a.n = omega arith in
-    c.first_greatest.ensures ∙ ap (first_greatest a.n) (rw e at l.invariant.2)
+    let e : c.loop-t.t ≡ a.n = omega arith in
+    c.first_greatest.ensures ∙ ap (first_greatest a.n) (rw e at c.loop-t.invariant.2)

@@ -11,11 +11,11 @@ unfolding of_bits
 returns-then-i-n c =
     let a = c.args in
     c.put.ensures
-    ∙ nearest_set a.s a.slots.now a.t3 a.n _ _ c.nearest_point-i.ensures (omega (arith, c.requires)) c.if-i-n.true
-    ∙ ap (nearest_in a.s a.slots.now a.t3 a.n) c.zero.ensures
+    ∙ nearest_set a.s a.slots.now a.dirs a.n _ _ c.nearest_point-i.ensures (omega (arith, c.requires)) c.if-i-n.true
+    ∙ ap (nearest_in a.s a.slots.now a.dirs a.n) c.zero.ensures
 
 pub returns-else-i-n : goal.returns-else-i-n
 returns-else-i-n c =
     let a = c.args in
-    nearest_none a.s a.slots.now a.t3 a.n _ _ c.nearest_point-i.ensures (omega (arith, c.requires)) c.if-i-n.false
-    ∙ ap (nearest_in a.s a.slots.now a.t3 a.n) c.zero.ensures
+    nearest_none a.s a.slots.now a.dirs a.n _ _ c.nearest_point-i.ensures (omega (arith, c.requires)) c.if-i-n.false
+    ∙ ap (nearest_in a.s a.slots.now a.dirs a.n) c.zero.ensures

@@ -19,13 +19,11 @@ pub loop-i-preserved : goal.loop-i-preserved
 unfolding products_of
 loop-i-preserved c =
     let a = c.args in
-    let l = c.loop-i in
-    let h : l.i < length l.m = omega arith in
-    (omega arith, simp length-set l.invariant.1, mapped_more (λ i. dot_in binary32 (part 3 a.dirs.now i) a.s) l.m l.i _ h l.invariant.2 c.product.ensures)
+    let h : c.loop-i.i < length c.loop-i.m = omega arith in
+    (omega arith, simp length-set c.loop-i.invariant.1, mapped_more (λ i. dot_in binary32 (part 3 a.dirs.now i) a.s) c.loop-i.m c.loop-i.i _ h c.loop-i.invariant.2 c.product.ensures)
 
 pub returns : goal.returns
 returns c =
     let a = c.args in
-    let l = c.loop-i in
-    let e : l.i ≡ a.n = omega arith in
-    c.first_greatest.ensures ∙ ap (first_greatest (0)) (rw e at l.invariant.2)
+    let e : c.loop-i.i ≡ a.n = omega arith in
+    c.first_greatest.ensures ∙ ap (first_greatest (0)) (rw e at c.loop-i.invariant.2)

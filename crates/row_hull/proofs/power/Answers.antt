@@ -14,14 +14,11 @@ loop-k-init c = (zero-le, power_none c.args.out.now)
 
 pub loop-k-preserved : goal.loop-k-preserved
 loop-k-preserved c =
-    let o = c.args.out.now in
-    let l = c.loop-k in (
+    (
       omega arith,
-      ap (λ (p : Float). add binary32 p (mul binary32 (get_or o l.k nan) (get_or o l.k nan))) l.invariant.1 ∙ power_more o l.k (omega arith),
+      ap (λ (p : Float). add binary32 p (mul binary32 (get_or c.args.out.now c.loop-k.k nan) (get_or c.args.out.now c.loop-k.k nan))) c.loop-k.invariant.1 ∙ power_more c.args.out.now c.loop-k.k (omega arith),
     )
 
 pub returns : goal.returns
 returns c =
-    let o = c.args.out.now in
-    let l = c.loop-k in
-    l.invariant.1 ∙ ap power_of (take_all l.k o (omega arith))
+    c.loop-k.invariant.1 ∙ ap power_of (take_all c.loop-k.k c.args.out.now (omega arith))

@@ -10,12 +10,9 @@ use Rattle.row_hull.proofs.scale.Goals as goal
 pub returns-then-pow : goal.returns-then-pow
 unfolding of_bits
 returns-then-pow c =
-    let o = c.args.out.now in
-    let e = c.power-pow.ensures in
-    let q = c.sqrt32.ensures ∙ ap (sqrt_of binary32) e in
-    c.times.ensures ∙ scaled_yes o _ (ap (div binary32 1·0) q) (ap (lt least_row_power) (sym e) ∙ c.if-pow.true)
+    let q = c.sqrt32.ensures ∙ ap (sqrt_of binary32) c.power-pow.ensures in
+    c.times.ensures ∙ scaled_yes c.args.out.now _ (ap (div binary32 1·0) q) (ap (lt least_row_power) (sym c.power-pow.ensures) ∙ c.if-pow.true)
 
 pub returns-else-pow : goal.returns-else-pow
 returns-else-pow c =
-    let o = c.args.out.now in
-    scaled_no o (ap (lt least_row_power) (sym c.power-pow.ensures) ∙ c.if-pow.false)
+    scaled_no c.args.out.now (ap (lt least_row_power) (sym c.power-pow.ensures) ∙ c.if-pow.false)

@@ -11,11 +11,10 @@ loop-i-init c = (zero-le, refl, times_none c.args.x c.args.out.now)
 pub loop-i-preserved : goal.loop-i-preserved
 loop-i-preserved c =
     let a = c.args in
-    let l = c.loop-i in
-    let h : l.i < length a.out.now = omega arith in (
+    let h : c.loop-i.i < length a.out.now = omega arith in (
       omega arith,
-      simp length-set l.invariant.1,
-      rw (l.invariant.2, times_at a.x a.out.now l.i h) (times_more a.x a.out.now l.i h),
+      simp length-set c.loop-i.invariant.1,
+      rw (c.loop-i.invariant.2, times_at a.x a.out.now c.loop-i.i h) (times_more a.x a.out.now c.loop-i.i h),
     )
 
 pub shape_of-out : goal.shape_of-out
@@ -24,5 +23,4 @@ shape_of-out c = c.loop-i.invariant.1
 pub returns : goal.returns
 returns c =
     let a = c.args in
-    let l = c.loop-i in
-    l.invariant.2 ∙ times_done a.x a.out.now l.i (omega arith)
+    c.loop-i.invariant.2 ∙ times_done a.x a.out.now c.loop-i.i (omega arith)

@@ -7,7 +7,4 @@ use Rattle.row_planar.proofs.by_crossfade.Goals as goal
 pub returns : goal.returns
 unfolding by_crossfade of_bits
 returns c =
-    let t = c.sin_cos32-t.ensures in
-    let s = c.shape.ensures in
-    let k = c.clamp.ensures in
-    (c.max32.ensures ∙ rw (t.1, s, k) refl, c.max32-2.ensures ∙ rw (t.0, s, k) refl)
+    (c.max32.ensures ∙ rw (c.sin_cos32-t.ensures.1, c.shape.ensures, c.clamp.ensures) refl, c.max32-2.ensures ∙ rw (c.sin_cos32-t.ensures.0, c.shape.ensures, c.clamp.ensures) refl)

@@ -7,5 +7,4 @@ use Rattle.row_planar.proofs.by_inverse.Goals as goal
 pub returns : goal.returns
 unfolding by_inverse of_bits
 returns c =
-    let t = c.sin_cos32-t.ensures in
-    (c.max32.ensures ∙ rw (t.0, t.1) refl, c.max32-2.ensures ∙ rw (t.0, t.1) refl)
+    (c.max32.ensures ∙ rw (c.sin_cos32-t.ensures.0, c.sin_cos32-t.ensures.1) refl, c.max32-2.ensures ∙ rw (c.sin_cos32-t.ensures.0, c.sin_cos32-t.ensures.1) refl)

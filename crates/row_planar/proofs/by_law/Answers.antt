@@ -7,14 +7,11 @@ use Rattle.row_planar.proofs.by_law.Goals as goal
 pub returns-in-Inverse : goal.returns-in-Inverse
 returns-in-Inverse c =
     let s = c.args in
-    let k = c.by_inverse.ensures in
     let e = law_inverse s.az s.p _ _ _ _ c.in-Inverse.is in
-    (k.0 ∙ ap (λ (g : Two). g.ga) e, k.1 ∙ ap (λ (g : Two). g.gb) e)
+    (c.by_inverse.ensures.0 ∙ ap (λ (g : Two). g.ga) e, c.by_inverse.ensures.1 ∙ ap (λ (g : Two). g.gb) e)
 
 pub returns-in-Crossfade : goal.returns-in-Crossfade
 returns-in-Crossfade c =
     let s = c.args in
-    let k = c.by_crossfade.ensures in
-    let r = c.rel_of.ensures in
     let e = law_crossfade s.az s.p c.in-Crossfade.is in
-    (k.0 ∙ rw r (ap (λ (g : Two). g.ga) e), k.1 ∙ rw r (ap (λ (g : Two). g.gb) e))
+    (c.by_crossfade.ensures.0 ∙ rw c.rel_of.ensures (ap (λ (g : Two). g.ga) e), c.by_crossfade.ensures.1 ∙ rw c.rel_of.ensures (ap (λ (g : Two). g.gb) e))

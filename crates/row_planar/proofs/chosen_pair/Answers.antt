@@ -9,4 +9,4 @@ pub returns-then-n-le8 : goal.returns-then-n-le8
 unfolding range from
 returns-then-n-le8 c =
     let a = c.args in
-    c.chosen_of_few.ensures ∙ ap (chosen a.az) (take_front a.t1 _ 8 a.n c.if-n-le8.true (omega (arith, c.well_formed.0.1.0.1)))
+    c.chosen_of_few.ensures ∙ ap (chosen a.az) (take_front a.pairs _ 8 a.n c.if-n-le8.true (omega (arith, c.well_formed.0.1.0.1)))

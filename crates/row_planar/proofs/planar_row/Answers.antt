@@ -10,22 +10,19 @@ pub returns-then-num_pairs-eq0 : goal.returns-then-num_pairs-eq0
 returns-then-num_pairs-eq0 c =
     let s = c.args in
     c.zero.ensures
-    ∙ planar_silent (length s.out.now) s.az s.el (take s.num-pairs s.pairs) (take s.num-slots s.slots) (none_taken s.pairs s.num-pairs c.if-num_pairs-eq0.true)
+    ∙ planar_silent (length s.out.now) s.az s.el (take s.num_pairs s.pairs) (take s.num_slots s.slots) (none_taken s.pairs s.num_pairs c.if-num_pairs-eq0.true)
 
 pub pair_row-requires : goal.pair_row-requires
 pair_row-requires c =
-    let z = c.zero-2 in
-    (search rules, z.ensures ∙ ap (λ (k : ℕ). replicate k +0) (sym z.auto.0))
+    (search rules, c.zero-2.ensures ∙ ap (λ (k : ℕ). replicate k +0) (sym c.zero-2.auto.row))
 
 pub returns : goal.returns
 returns c =
-    let g = c.by_law-g in
-    let gains : Two = record { ga = g.result.ga; gb = g.result.gb } in
-    let p = c.chosen_pair-p in
+    let gains : Two = record { ga = c.by_law-g.result.ga; gb = c.by_law-g.result.gb } in
     let slots : List ℕ = take c.args.num_slots c.args.slots in
     let long : length c.args.pairs ≡ 40 = c.well_formed.0.1.0.1 in
     c.pair_row.ensures
-    ∙ ap (λ (n : ℕ). pair_row n c.args.el p.result gains slots) c.zero-2.auto.0
-    ∙ planar_sounds (length c.args.out.now) c.args.az c.args.el (take c.args.num_pairs c.args.pairs) slots p.ensures
-    (two_same (by_law c.args.az p.result p.result.law) g.ensures.0 g.ensures.1)
+    ∙ ap (λ (n : ℕ). pair_row n c.args.el c.chosen_pair-p.result gains slots) c.zero-2.auto.row
+    ∙ planar_sounds (length c.args.out.now) c.args.az c.args.el (take c.args.num_pairs c.args.pairs) slots c.chosen_pair-p.ensures
+    (two_same (by_law c.args.az c.chosen_pair-p.result c.chosen_pair-p.result.law) c.by_law-g.ensures.0 c.by_law-g.ensures.1)
     (some_taken c.args.pairs c.args.num_pairs (omega arith) c.if-num_pairs-eq0.false)

@@ -11,8 +11,7 @@ went c = passed _ _ 0 (sym c.source_refusal-why.ensures ∙ c.if-why-ne0.false)
 
 pub returns-then-why-ne0 : goal.returns-then-why-ne0
 returns-then-why-ne0 c =
-    let w = c.source_refusal-why.ensures in
-    w ∙ sym (take_shared _ _ (λ e. c.if-why-ne0.true (w ∙ e)))
+    c.source_refusal-why.ensures ∙ sym (take_shared _ _ (λ e. c.if-why-ne0.true (c.source_refusal-why.ensures ∙ e)))
 
 pub bounds-counts-source : goal.bounds-counts-source
 bounds-counts-source c = (went (goal.at.bounds-counts-source c).Else-why-ne0).source

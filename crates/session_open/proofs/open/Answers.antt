@@ -18,8 +18,7 @@ returns-then-why-ne0 c =
 
 pub overflow_cast-sources : goal.overflow_cast-sources
 overflow_cast-sources c =
-    let n = c.args.sources in
-    omega (arith, few_sources n c.if-sources.false)
+    omega (arith, few_sources c.args.sources c.if-sources.false)
 
 pub returns : goal.returns
 returns c =

@@ -5,7 +5,6 @@ use borrow.Rule.Slice.PartMut.{same_len_mid}
 use lib.ListN.{length, get_or}
 use lib.Ieee.{Float, nan}
 use Rattle.lists.specs.Lists.{range}
-use Rattle.layout_record.specs.declared.VbapPanner.{VbapPanner}
 use Rattle.mix_block.specs.Limits.{most_sources, row_places}
 use Rattle.session_history.specs.History.{depth}
 use Rattle.session_calls.specs.Session.{target, new_start}
@@ -16,11 +15,8 @@ use Rattle.session_render.proofs.Rows.{target_at, renewed_none, part_long, row_m
 use native.Mathlib.Nat.{not-suc-le-zero}
 use native.Mathlib.Omega.{arith}
 use Rattle.session_render.proofs.new_starts.Goals as goal
+use Rattle.session_render.proofs.new_starts.Invariants.{held}
 use Rattle.session_render.proofs.new_starts.Goals.{In-loop-i, Start}
-
--- the session, of what the loop holds of it
-abbrev held : VbapPanner → List ℕ → List Float → ℕ → List Float → Session
-held v counts standing n l = record { panner = v; sources = n; counts = counts; standing = standing; starts = l }
 
 -- the session at the start of the loop: the caller's, with its start rows under another name
 abbrev whole : (c : Start) → Session
@@ -48,10 +44,10 @@ loop-i-init c =
     (omega arith, c.well_formed.1.0.1.0.1, renewed_none row_places _ (new_start (whole (goal.at.loop-i-init c).Start)), λ j h. absurd (not-suc-le-zero h))
 
 pub bounds-counts-i : goal.bounds-counts-i
-bounds-counts-i c = (low (goal.at.bounds-counts-i c).In-loop-i-unread).source
+bounds-counts-i c = (low (goal.at.bounds-counts-i c).In-loop-i).source
 
 pub overflow_mul-last : goal.overflow_mul-last
-overflow_mul-last c = omega (arith, (low (goal.at.overflow_mul-last c).In-loop-i).source)
+overflow_mul-last c = omega (arith, (low c).source)
 
 pub overflow_mul-last-in-loop-i : goal.overflow_mul-last-in-loop-i
 overflow_mul-last-in-loop-i c =
@@ -120,26 +116,19 @@ target-requires c =
 
 pub loop-i-preserved : goal.loop-i-preserved
 loop-i-preserved c =
-    let t = c.target in
     let l = low (goal.at.loop-i-preserved c).In-loop-i in
-    let i = c.loop-i.i in
-    let k = c.args.s.panner.num_outputs in
-    let is : t.new.1.1.1.1.0 ≡ target (whole (goal.at.loop-i-preserved c).Start) i = t.ensures ∙ target_at (whole (goal.at.loop-i-preserved c).Start) i _ c.last_of.ensures in
-    let long = t.auto.1.1.1.1.0 ∙ part_long c.loop-i.next (i * row_places) k (omega (arith, l.source, l.outputs, c.loop-i.invariant.1)) in (
+    let is : c.target.new.row ≡ target (whole (goal.at.loop-i-preserved c).Start) c.loop-i.i = c.target.ensures ∙ target_at (whole (goal.at.loop-i-preserved c).Start) c.loop-i.i _ c.last_of.ensures in
+    let long = c.target.auto.1.1.1.1.0 ∙ part_long c.loop-i.next (c.loop-i.i * row_places) c.args.s.panner.num_outputs (omega (arith, l.source, l.outputs, c.loop-i.invariant.1)) in (
       omega arith,
-      same_len_mid (i * row_places) (i * row_places + k - i * row_places) c.loop-i.next t.new.1.1.1.1.0 t.auto.1.1.1.1.0 ∙ c.loop-i.invariant.1,
-      row_made (whole (goal.at.loop-i-preserved c).Start) c.well_formed.1.0.1.0.1 i t.new.1.1.1.1.0 l.outputs l.source c.loop-i-test.true is long c.loop-i.invariant.2,
-      below_more i c.loop-i.invariant.3 (ap length (sym is) ∙ long),
+      same_len_mid (c.loop-i.i * row_places) (c.loop-i.i * row_places + c.args.s.panner.num_outputs - c.loop-i.i * row_places) c.loop-i.next c.target.new.row c.target.auto.1.1.1.1.0 ∙ c.loop-i.invariant.1,
+      row_made (whole (goal.at.loop-i-preserved c).Start) c.well_formed.1.0.1.0.1 c.loop-i.i c.target.new.row l.outputs l.source c.loop-i-test.true is long c.loop-i.invariant.2,
+      below_more c.loop-i.i c.loop-i.invariant.3 (ap length (sym is) ∙ long),
     )
 
 pub returns : goal.returns
 returns c =
     let few = (formed c.args.s c.requires.0).few in
-    let all = c.well_formed.1.0.1.0.1 in
-    let made = rows_made (whole (goal.at.returns c).Start) all c.loop-i.i c.loop-i-test.false (omega arith) c.loop-i.invariant.2 in (
-      made ∙ ap (λ (w : Session). flat_map (new_start w) (range most_sources)) (whole_is (goal.at.returns c).Start),
-      λ i o g h.
+    let made = rows_made (whole (goal.at.returns c).Start) c.well_formed.1.0.1.0.1 c.loop-i.i c.loop-i-test.false (omega arith) c.loop-i.invariant.2 in record { made = made ∙ ap (λ (w : Session). flat_map (new_start w) (range most_sources)) (whole_is (goal.at.returns c).Start); gains = λ i o g h.
           ap (λ (l : List Float). get_or l (i * row_places + o) nan) made
-          ∙ get_d_new (whole (goal.at.returns c).Start) (outputs_low c.args.s c.requires.0) all (λ j k. c.loop-i.invariant.3 j (omega arith)) i o (omega arith) g h
-          ∙ ap (λ (w : Session). get_or (target w i) o nan) (whole_is (goal.at.returns c).Start),
-    )
+          ∙ get_d_new (whole (goal.at.returns c).Start) (outputs_low c.args.s c.requires.0) c.well_formed.1.0.1.0.1 (λ j k. c.loop-i.invariant.3 j (omega arith)) i o (omega arith) g h
+          ∙ ap (λ (w : Session). get_or (target w i) o nan) (whole_is (goal.at.returns c).Start) }

@@ -16,8 +16,7 @@ passed c = admitted _ _ _ _ (sym c.refusal-why.ensures ∙ c.if-why-ne0.false)
 pub returns-then-why-ne0 : goal.returns-then-why-ne0
 returns-then-why-ne0 c =
     let s = c.args in
-    let w = c.refusal-why.ensures in
-    (refused_as _ _ w c.if-why-ne0.true, buffer_refused s.s s.block s.samples.now s.outputs.now w c.if-why-ne0.true)
+    (refused_as _ _ c.refusal-why.ensures c.if-why-ne0.true, buffer_refused s.s s.block s.samples.now s.outputs.now c.refusal-why.ensures c.if-why-ne0.true)
 
 pub new_starts-to-requires : goal.new_starts-to-requires
 new_starts-to-requires c = ((passed (goal.at.new_starts-to-requires c).Else-why-ne0).formed, refl)
@@ -25,16 +24,14 @@ new_starts-to-requires c = ((passed (goal.at.new_starts-to-requires c).Else-why-
 pub mix-requires : goal.mix-requires
 mix-requires c =
     let p = passed (goal.at.mix-requires c).Else-why-ne0 in
-    let s = c.args.s in
-    (outputs_low s p.formed, (formed s p.formed).few, p.sampled, p.lent)
+    (outputs_low c.args.s p.formed, (formed c.args.s p.formed).few, p.sampled, p.lent)
 
 pub returns : goal.returns
 returns c =
     let s = c.args in
-    let w = c.refusal-why.ensures in
-    let n = c.new_starts-to in (
-      render_done s.s s.block s.samples.now s.outputs.now w c.if-why-ne0.false n.ensures.0 c.with_starts.ensures,
+    (
+      render_done s.s s.block s.samples.now s.outputs.now c.refusal-why.ensures c.if-why-ne0.false c.new_starts-to.ensures.made c.with_starts.ensures,
       c.mix.ensures
-          ∙ mix_same s.s s.block s.samples.now n.result (outputs_low s.s (passed (goal.at.returns c).Else-why-ne0).formed) n.ensures.1 s.outputs.now
-          ∙ buffer_done s.s s.block s.samples.now s.outputs.now w c.if-why-ne0.false,
+          ∙ mix_same s.s s.block s.samples.now c.new_starts-to.result (outputs_low s.s (passed (goal.at.returns c).Else-why-ne0).formed) c.new_starts-to.ensures.gains s.outputs.now
+          ∙ buffer_done s.s s.block s.samples.now s.outputs.now c.refusal-why.ensures c.if-why-ne0.false,
     )

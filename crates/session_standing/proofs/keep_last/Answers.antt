@@ -24,5 +24,5 @@ loop-k-preserved c =
 pub returns : goal.returns
 returns c =
     let a = c.args in
-    let long : length a.t1 ≡ most_sources * (depth * 2) = c.well_formed.0.1.0.1 in
-    sets_done a.t1 c.loop-k.r a.first a.last c.loop-k.k (depth * 2 - 2) nan +0 (omega arith) c.loop-k-test.false c.loop-k.invariant.2
+    let long : length a.standing ≡ most_sources * (depth * 2) = c.well_formed.0.1.0.1 in
+    sets_done a.standing c.loop-k.r a.first a.last c.loop-k.k (depth * 2 - 2) nan +0 (omega arith) c.loop-k-test.false c.loop-k.invariant.2

@@ -5,4 +5,4 @@ use Rattle.vector.proofs.widened.Goals as goal
 
 pub returns : goal.returns
 returns c =
-    cc (three_places c.args.t1 nan c.well_formed.0.1.0.1)
+    cc (three_places c.args.p nan c.well_formed.0.1.0.1)

@@ -3,5 +3,4 @@ use Rattle.boundary_exports.proofs.layouts.panner_gains.Goals as goal
 
 pub returns : goal.returns
 returns c =
-    let g = c.gains.ensures in
-    rw (← c.taken_in-p.ensures) (g.0, g.1)
+    rw (← c.taken_in-p.ensures) (c.gains.ensures.value, c.gains.ensures.out_after)

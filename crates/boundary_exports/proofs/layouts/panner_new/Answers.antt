@@ -11,16 +11,14 @@ returns-then-why-ne0 c = rw (← c.new-made.ensures, ne_eqb _ _ c.if-why-ne0.tru
 
 pub returns : goal.returns
 returns c =
-    let h = c.hand_out.ensures in
     let a = c.args in
-    let p = c.new-made.result.panner in
     rw (← c.new-made.ensures) (
       sym c.if-why-ne0.false,
       (
         refl,
         (
-          laid_all (record_bytes p) a.bytes.now record_byte_places c.hand_out-arg-1.given.0.1 h.0,
-          laid_all (record_floats p) a.floats.now record_float_places c.hand_out-arg-2-1.given.0.1 h.1.0,
+          laid_all (record_bytes c.new-made.result.panner) a.bytes.now record_byte_places c.hand_out-arg-1.given.0.1 c.hand_out.ensures.bytes,
+          laid_all (record_floats c.new-made.result.panner) a.floats.now record_float_places c.hand_out-arg-2-1.given.0.1 c.hand_out.ensures.floats.0,
         ),
       ),
     )

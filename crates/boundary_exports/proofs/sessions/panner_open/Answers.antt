@@ -10,17 +10,16 @@ pub returns-then-why-ne0 : goal.returns-then-why-ne0
 returns-then-why-ne0 c =
     let given = c.args in
     let made : c.open-opened.result ≡ open_of given.positions.now given.lfe.now given.sources = c.open-opened.ensures in
-    let refused = c.if-why-ne0.true in
-    (ap (λ (o : Opened). o.number) made, (kept _ _ _ refused, (kept _ _ _ refused, kept _ _ _ refused)))
+    (ap (λ (o : Opened). o.number) made, (kept _ _ _ c.if-why-ne0.true, (kept _ _ _ c.if-why-ne0.true, kept _ _ _ c.if-why-ne0.true)))
 
 pub returns : goal.returns
 returns c =
     let given = c.args in
     let made : c.open-opened.result ≡ open_of given.positions.now given.lfe.now given.sources = c.open-opened.ensures in
-    let h = c.hand_out.ensures in (
+    (
       sym c.if-why-ne0.false ∙ ap (λ (o : Opened). o.number) made,
       (
         ap (λ (o : Opened). o.imaginary) made,
-        (h.0 ∙ ap (λ (o : Opened). session_bytes o.session) made, h.1 ∙ ap (λ (o : Opened). session_floats o.session) made),
+        (c.hand_out.ensures.bytes ∙ ap (λ (o : Opened). session_bytes o.session) made, c.hand_out.ensures.floats ∙ ap (λ (o : Opened). session_floats o.session) made),
       ),
     )

@@ -8,5 +8,4 @@ use Rattle.boundary_exports.proofs.sessions.panner_place.Goals as goal
 pub returns : goal.returns
 returns c =
     let given = c.args in
-    let l = c.leave.ensures in
-    left given.bytes.now given.floats.now (λ (s : Session). answer_of s (place given.source given.az given.el)) c.taken_in-s.ensures c.place-r.ensures l.0 l.1.0 l.1.1
+    left given.bytes.now given.floats.now (λ (s : Session). answer_of s (place given.source given.az given.el)) c.taken_in-s.ensures c.place-r.ensures c.leave.ensures.number c.leave.ensures.bytes.0 c.leave.ensures.bytes.1

@@ -7,5 +7,4 @@ use Rattle.boundary_exports.proofs.sessions.panner_place_take_back_all.Goals as 
 pub returns : goal.returns
 returns c =
     let given = c.args in
-    let l = c.leave.ensures in
-    left given.bytes.now given.floats.now (λ (s : Session). place_take_back s given.source given.az.now given.el.now) c.taken_in-s.ensures c.place_take_back-r.ensures l.0 l.1.0 l.1.1
+    left given.bytes.now given.floats.now (λ (s : Session). place_take_back s given.source given.az.now given.el.now) c.taken_in-s.ensures c.place_take_back-r.ensures c.leave.ensures.number c.leave.ensures.bytes.0 c.leave.ensures.bytes.1

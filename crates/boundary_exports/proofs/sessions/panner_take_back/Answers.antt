@@ -8,5 +8,4 @@ use Rattle.boundary_exports.proofs.sessions.panner_take_back.Goals as goal
 pub returns : goal.returns
 returns c =
     let given = c.args in
-    let l = c.leave.ensures in
-    left given.bytes.now given.floats.now (λ (s : Session). answer_of s (take_back given.source)) c.taken_in-s.ensures c.take_back-r.ensures l.0 l.1.0 l.1.1
+    left given.bytes.now given.floats.now (λ (s : Session). answer_of s (take_back given.source)) c.taken_in-s.ensures c.take_back-r.ensures c.leave.ensures.number c.leave.ensures.bytes.0 c.leave.ensures.bytes.1

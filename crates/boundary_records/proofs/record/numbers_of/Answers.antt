@@ -17,12 +17,12 @@ loop-i-init c = (omega arith, omega arith, refl, c.well_formed.0.1.0.1, gathered
 
 pub loop-i-preserved : goal.loop-i-preserved
 loop-i-preserved c =
-    let l = c.loop-i in (
+    (
       omega arith,
       omega arith,
       simp length-set (omega arith),
-      l.invariant.3,
-      numbers_more c.args.t1 l.to l.i _ _ (omega arith) (omega arith) c.law_numbers-v.ensures l.invariant.4,
+      c.loop-i.invariant.3,
+      numbers_more c.args.ps c.loop-i.to c.loop-i.i _ _ (omega arith) (omega arith) c.law_numbers-v.ensures c.loop-i.invariant.4,
     )
 
 pub returns : goal.returns

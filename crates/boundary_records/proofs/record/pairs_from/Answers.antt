@@ -12,11 +12,10 @@ loop-i-init c = (omega arith, refl, pairs_none _ _)
 
 pub loop-i-preserved : goal.loop-i-preserved
 loop-i-preserved c =
-    let l = c.loop-i in
     let a = c.args in
-    (omega arith, simp length-set (omega arith), pairs_more a.t1 a.t2 l.i _ c.loop-i-test.true (pair_made a.t1 a.t2 l.i c.law_from-law.result c.law_from-law.ensures) l.invariant.2)
+    (omega arith, simp length-set (omega arith), pairs_more a.numbers a.bytes c.loop-i.i _ c.loop-i-test.true (pair_made a.numbers a.bytes c.loop-i.i c.law_from-law.result c.law_from-law.ensures) c.loop-i.invariant.2)
 
 pub returns : goal.returns
 returns c =
     let a = c.args in
-    pairs_all a.t1 a.t2 (omega arith) c.loop-i.invariant.2
+    pairs_all a.numbers a.bytes (omega arith) c.loop-i.invariant.2

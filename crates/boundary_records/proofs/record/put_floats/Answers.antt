@@ -4,4 +4,4 @@ use borrow.Author.Rules.{rules}
 use Rattle.boundary_records.proofs.record.put_floats.Goals as goal
 
 pub returns : goal.returns
-returns c = (three_pasted c.copy_floats.ensures c.copy_floats-2.ensures c.copy_floats-3.ensures, (search rules, search rules, search rules))
+returns c = record { to_after = three_pasted c.copy_floats.ensures c.copy_floats-2.ensures c.copy_floats-3.ensures; long = (search rules, search rules, search rules) }

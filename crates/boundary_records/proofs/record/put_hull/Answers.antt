@@ -4,4 +4,4 @@ use borrow.Author.Rules.{rules}
 use Rattle.boundary_records.proofs.record.put_hull.Goals as goal
 
 pub returns : goal.returns
-returns c = (four_pasted c.copy_bytes.ensures c.copy_bytes-2.ensures c.copy_bytes-3.ensures c.copy_bytes-4.ensures, (search rules, search rules, search rules, search rules))
+returns c = record { to_after = four_pasted c.copy_bytes.ensures c.copy_bytes-2.ensures c.copy_bytes-3.ensures c.copy_bytes-4.ensures; long = (search rules, search rules, search rules, search rules) }

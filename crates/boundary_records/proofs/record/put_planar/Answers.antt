@@ -4,4 +4,4 @@ use borrow.Author.Rules.{rules}
 use Rattle.boundary_records.proofs.record.put_planar.Goals as goal
 
 pub returns : goal.returns
-returns c = (three_pasted c.copy_bytes.ensures c.copy_bytes-2.ensures c.copy_bytes-3.ensures, (search rules, search rules, search rules))
+returns c = record { to_after = three_pasted c.copy_bytes.ensures c.copy_bytes-2.ensures c.copy_bytes-3.ensures; long = (search rules, search rules, search rules) }

@@ -12,9 +12,4 @@ pub returns : goal.returns
 unfolding own_bytes own_floats
 returns c =
     let a = c.args in
-    let pre = c.requires in
-    let n = c.put_counts.ensures in
-    let r = c.put_rows.ensures in (
-      laid_own a.bytes.now (a.s.sources ∷ []) a.s.counts record_byte_places 1 most_sources (omega (arith, pre.0)) refl n.1 pre.0 n.0,
-      laid_own a.floats.now a.s.starts a.s.standing record_float_places start_places standing_places (omega (arith, pre.1)) r.1.0 r.1.1 pre.1 r.0,
-    )
+    record { bytes = laid_own a.bytes.now (a.s.sources ∷ []) a.s.counts record_byte_places 1 most_sources (omega (arith, c.requires.0)) refl c.put_counts.ensures.long c.requires.0 c.put_counts.ensures.to_after; floats = laid_own a.floats.now a.s.starts a.s.standing record_float_places start_places standing_places (omega (arith, c.requires.1)) c.put_rows.ensures.long.0 c.put_rows.ensures.long.1 c.requires.1 c.put_rows.ensures.to_after }

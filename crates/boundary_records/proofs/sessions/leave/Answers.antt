@@ -11,6 +11,4 @@ returns-then-a-ne0 c = rw (ne_eqb _ _ c.if-a-ne0.true) (refl, (refl, refl))
 pub returns : goal.returns
 unfolding bytes_left floats_left
 returns c =
-    let z = c.if-a-ne0.false in
-    let o = c.hand_out_own.ensures in
-    rw (eq-eqb _ _ z) (sym z, (o.0, o.1))
+    rw (eq-eqb _ _ c.if-a-ne0.false) (sym c.if-a-ne0.false, (c.hand_out_own.ensures.bytes, c.hand_out_own.ensures.floats))

@@ -4,4 +4,4 @@ use borrow.Author.Rules.{rules}
 use Rattle.boundary_records.proofs.sessions.put_counts.Goals as goal
 
 pub returns : goal.returns
-returns c = (two_pasted c.copy_bytes.ensures c.copy_bytes-2.ensures, (search rules))
+returns c = record { to_after = two_pasted c.copy_bytes.ensures c.copy_bytes-2.ensures; long = (search rules) }
