@@ -75,16 +75,16 @@ round_between {f} {x} s num den A C e p h k l a b =
     }
 
 -- ---- a sum of unlike signs, whichever is the larger: N is the distance of X and Y
-swap : (f : Format) (s : Bool) (a b c : ℕ) → (u : Bool) × (N : ℕ) × (sum f s a (not s) b c ≡ round f u N c) × ((b ≤ a) × (N ≡ a - b)) ⊎ ((a ≤ b) × (N ≡ b - a))
+swap : (f : Format) (s : Bool) (a b c : ℕ) → (u : Bool) × (N : ℕ) × (sum f s a (not s) b c ≡ round f u N c) × (((b ≤ a) × (N ≡ a - b)) ⊎ ((a ≤ b) × (N ≡ b - a)))
 unfolding sum
 swap f true a b c = go (ltb a b) (ltb→lt a b) (nltb→le a b)
   where
-    go : (x : Bool) → (T x → a < b) → (T (not x) → b ≤ a) → (u : Bool) × (N : ℕ) × (cond x (round f false (b - a) c) (round f (true && ltb b a) (a - b) c) ≡ round f u N c) × ((b ≤ a) × (N ≡ a - b)) ⊎ ((a ≤ b) × (N ≡ b - a))
+    go : (x : Bool) → (T x → a < b) → (T (not x) → b ≤ a) → (u : Bool) × (N : ℕ) × (cond x (round f false (b - a) c) (round f (true && ltb b a) (a - b) c) ≡ round f u N c) × (((b ≤ a) × (N ≡ a - b)) ⊎ ((a ≤ b) × (N ≡ b - a)))
     go true h k = (false, b - a, refl, inr (le_of_lt (h tt), refl))
     go false h k = (true && ltb b a, a - b, refl, inl (k tt, refl))
 swap f false a b c = go (ltb a b) (ltb→lt a b) (nltb→le a b)
   where
-    go : (x : Bool) → (T x → a < b) → (T (not x) → b ≤ a) → (u : Bool) × (N : ℕ) × (cond x (round f true (b - a) c) (round f (false && ltb b a) (a - b) c) ≡ round f u N c) × ((b ≤ a) × (N ≡ a - b)) ⊎ ((a ≤ b) × (N ≡ b - a))
+    go : (x : Bool) → (T x → a < b) → (T (not x) → b ≤ a) → (u : Bool) × (N : ℕ) × (cond x (round f true (b - a) c) (round f (false && ltb b a) (a - b) c) ≡ round f u N c) × (((b ≤ a) × (N ≡ a - b)) ⊎ ((a ≤ b) × (N ≡ b - a)))
     go true h k = (true, b - a, refl, inr (le_of_lt (h tt), refl))
     go false h k = (false && ltb b a, a - b, refl, inl (k tt, refl))
 

@@ -41,7 +41,7 @@ module _ {R : Type 0} (𝓡 : CommRing R) where
   zero-add = 𝓡.is_comm_ring.is_ring.is_semiring.is_non_unital_semiring.is_non_unital_non_assoc_semiring.is_add_comm_monoid.is_add_monoid.zero-add
 
   neg_add_cancel : (a : R) → 𝓡.neg a + a ≡ 𝓡.zero
-  neg_add_cancel = 𝓡.is_comm_ring.is_ring.neg_add_cancel
+  neg_add_cancel = 𝓡.is_comm_ring.is_ring.neg-add_cancel
 
   sub_self : (a : R) → a - a ≡ 𝓡.zero
   sub_self a = add_comm a (𝓡.neg a) ∙ neg_add_cancel a

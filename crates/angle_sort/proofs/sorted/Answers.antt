@@ -13,7 +13,7 @@ use Rattle.angle_sort.specs.Inner.Front.{place_of, opened_of, inserted_in, sorte
 use Rattle.angle_sort.proofs.Insertion.{no_spot, length_sorted_in, sorted_next, moved_store, moved_read, opened_inserted, sorted_none, sorted_more, sorted_capped}
 use native.Mathlib.Omega.{arith}
 use Rattle.angle_sort.proofs.sorted.Goals as goal
-use Rattle.angle_sort.proofs.sorted.Goals.{At-spots, Left-place}
+use Rattle.angle_sort.proofs.sorted.Goals.{At-spots, Left-place, else-place-test, then-place-test+then-angle-b}
 
 -- the array keeps its length
 long : (s : At-spots) → length s.spots.b ≡ 53
@@ -31,10 +31,10 @@ place_found : (w : Left-place)
     → w.place.p ≡ place_of (get_or w.spots.b w.spots.q no_spot).angle (take w.spots.q w.spots.b)
 place_found w =
     let f : w.spots.q ≤ length w.spots.b = fits w.before.before.before.before w.spots-test.true in
-    ⊎_elim
-    (λ a. omega (arith, w.place.invariant.1, position_end (above (get_or w.spots.b w.spots.q no_spot)) w.spots.b w.spots.q w.place.p a.left f))
-    (λ a. omega (arith, w.place.invariant.1, position_here (above (get_or w.spots.b w.spots.q no_spot)) w.spots.b w.spots.q w.place.p no_spot a.0.taken f a.1.taken))
-    w.place-test.branch
+    elim w.place-test.branch [
+      | else-place-test x ↦ omega (arith, w.place.invariant.1, position_end (above (get_or w.spots.b w.spots.q no_spot)) w.spots.b w.spots.q w.place.p x.place-test.false f)
+      | then-place-test+then-angle-b x ↦ omega (arith, w.place.invariant.1, position_here (above (get_or w.spots.b w.spots.q no_spot)) w.spots.b w.spots.q w.place.p no_spot x.place-test.true f x.if-angle-b.true)
+    ]
 
 pub spots-init : goal.spots-init
 spots-init c = (zero-le, sorted_none _)

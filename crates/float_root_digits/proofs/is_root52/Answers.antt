@@ -35,7 +35,7 @@ returns c h =
     let p = parts (goal.at.returns c).Start in
     let small : c.wrapping_sub_u64-lower.result < c.args.q * 2 = ltb-true _ _ h in
     stepped p (record {
-      first = unwrapped c.wrapping_sub_u64-upper.result (a * a) c.wrapping_sub_u64-upper.ensures (omega (arith, p.upper, c.if-upper-ge536870912.false));
-      second = unwrapped c.wrapping_sub_u64-mixed.result (a * b * 2) c.wrapping_sub_u64-mixed.ensures (omega (arith, p.mixed, c.if-mixed-ge2147483648.false));
-      third = unwrapped c.wrapping_sub_u64-lower.result (2 ^ 56 + 1 + b * b) c.wrapping_sub_u64-lower.ensures (omega (arith, p.lower, small, c.requires.1));
+      first = unwrapped c.wrapping_sub_u64-upper.result (a * a) c.wrapping_sub_u64-upper.ensures.value (omega (arith, p.upper, c.if-upper-ge536870912.false));
+      second = unwrapped c.wrapping_sub_u64-mixed.result (a * b * 2) c.wrapping_sub_u64-mixed.ensures.value (omega (arith, p.mixed, c.if-mixed-ge2147483648.false));
+      third = unwrapped c.wrapping_sub_u64-lower.result (2 ^ 56 + 1 + b * b) c.wrapping_sub_u64-lower.ensures.value (omega (arith, p.lower, small, c.requires.1));
     }) small

@@ -1,6 +1,7 @@
 use Rattle.std.proofs.Common.{◌≡◌, ℕ, suc, ◌+◌, ◌-◌, ◌*◌, ◌/◌, ◌%◌, ◌^◌, ◌<◌, ◌≤◌, sym, ap, ◌∙◌, subst, subst₂, ⊎_elim, lt_of_lt_of_le, le_of_suc-le-suc, mul_assoc, mul_comm, pow-suc, zero-add, mul-one, add-one, arith, pow_mono}
 use Rattle.float_root_digits.proofs.Squares.{sq_suc, sq_twice, sq_lt}
 use Rattle.float_root_digits.proofs.root_by_digits.Goals as goal
+use Rattle.float_root_digits.proofs.root_by_digits.Goals.{then-root-rem, else-root-rem}
 use Rattle.float_root_digits.proofs.root_by_digits.Invariants.{Inv}
 
 -- one turn: the number gets two digits more
@@ -87,10 +88,7 @@ overflow_add-root c = let k = low _ _ _ _ _ c.loop-i.invariant c.loop-i-test.tru
 pub loop-i-preserved : goal.loop-i-preserved
 loop-i-preserved c =
     let p : ℕ → ℕ → Type 0 = λ x y. Inv c.args.m (c.loop-i.left % 2 ^ 62 * 4) x y (c.loop-i.i + 1) in
-    ⊎_elim
-    (λ w. subst₂ p (sym w.1) (sym w.2) (step-one c.args.m c.loop-i.left c.loop-i.root c.loop-i.rem c.loop-i.i c.loop-i.invariant c.loop-i-test.true w.0.taken))
-    (λ w. subst₂ p (sym w.1) (sym w.2) (step-none c.args.m c.loop-i.left c.loop-i.root c.loop-i.rem c.loop-i.i c.loop-i.invariant c.loop-i-test.true w.0.left))
-    c.if-root-rem.branch
+    elim c.if-root-rem.branch [ then-root-rem w ↦ subst₂ p (sym w.root-is) (sym w.rem-is) (step-one c.args.m c.loop-i.left c.loop-i.root c.loop-i.rem c.loop-i.i c.loop-i.invariant c.loop-i-test.true w.if-root-rem.true) | else-root-rem w ↦ subst₂ p (sym w.root-is) (sym w.rem-is) (step-none c.args.m c.loop-i.left c.loop-i.root c.loop-i.rem c.loop-i.i c.loop-i.invariant c.loop-i-test.true w.if-root-rem.false) ]
 
 pub returns : goal.returns
 returns c =
