@@ -46,4 +46,4 @@ pub next_computed : (flat : List Float) (nrm : Vector) (i j k : ℕ) (at : List 
     → r ≡ adjacent j k (take (m + 2) s)
     → r ≡ adjacent j k (fan_of flat nrm i (j ∷ k ∷ take m at))
 unfolding fan_of
-next_computed flat nrm i j k at m h {u} {v} {am} eu ev em ea es er = rw (er, es, ea, fan_front flat u v am j k at m h, em, ev, eu) refl
+next_computed flat nrm i j k at m h {u} {v} {am} eu ev em ea es er = cc (fan_front flat u v am j k at m h)

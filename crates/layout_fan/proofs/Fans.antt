@@ -176,7 +176,7 @@ spots_more flat u v am j k l q h g =
     let f = spot_of flat u v am in
     let m : List Spot = map f (j ∷ k ∷ take q l) in
     let e : length m ≡ q + 2 = length-map (j ∷ k ∷ take q l) f ∙ omega (arith, length-take-le q l (omega arith)) in
-    rw (← e, add-one, take-suc l q 0 h, map-append) (set_filled 53 no_spot m (f (get_or l q 0)) (omega (arith, e)))
+    rw (← e, add-one, take-suc l q 0 h, map-append f) (set_filled 53 no_spot m (f (get_or l q 0)) (omega (arith, e)))
 
 -- the front of the sorted array is the fan
 pub fan_front : (flat : List Float) (u v : Vector) (am : Float) (j k : ℕ) (l : List ℕ) (m : ℕ) → m ≤ length l
