@@ -9,15 +9,14 @@ pub loop-i-init : goal.loop-i-init
 loop-i-init c = (omega arith, omega arith, omega arith, omega arith, refl, filled_none _ c.args.dst.now)
 
 pub loop-i-preserved : goal.loop-i-preserved
-loop-i-preserved c =
-    (
-      omega arith,
-      omega arith,
-      omega arith,
-      omega arith,
-      simp length-set (omega arith),
-      filled_more _ c.args.dst.now c.loop-i.dst c.loop-i.i c.atan2.result (omega arith) c.atan2.ensures c.loop-i.invariant.5,
-    )
+loop-i-preserved c = (
+  omega arith,
+  omega arith,
+  omega arith,
+  omega arith,
+  simp length-set (omega arith),
+  filled_more _ c.args.dst.now c.loop-i.dst c.loop-i.i c.atan2.result (omega arith) c.atan2.ensures c.loop-i.invariant.5,
+)
 
 pub shape_of-dst : goal.shape_of-dst
 shape_of-dst c = c.loop-i.invariant.4

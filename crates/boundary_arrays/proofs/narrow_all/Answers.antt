@@ -9,14 +9,13 @@ pub loop-i-init : goal.loop-i-init
 loop-i-init c = (omega arith, omega arith, omega arith, refl, filled_none _ c.args.dst.now)
 
 pub loop-i-preserved : goal.loop-i-preserved
-loop-i-preserved c =
-    (
-      omega arith,
-      omega arith,
-      omega arith,
-      simp length-set (omega arith),
-      filled_more _ c.args.dst.now c.loop-i.dst c.loop-i.i c.narrow.result (omega arith) c.narrow.ensures c.loop-i.invariant.4,
-    )
+loop-i-preserved c = (
+  omega arith,
+  omega arith,
+  omega arith,
+  simp length-set (omega arith),
+  filled_more _ c.args.dst.now c.loop-i.dst c.loop-i.i c.narrow.result (omega arith) c.narrow.ensures c.loop-i.invariant.4,
+)
 
 pub shape_of-dst : goal.shape_of-dst
 shape_of-dst c = c.loop-i.invariant.3

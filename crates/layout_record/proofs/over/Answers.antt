@@ -23,8 +23,7 @@ returns-then-bound-xs c =
 
 pub loop-i-preserved : goal.loop-i-preserved
 loop-i-preserved c =
-    let a = c.args in
-    (
+    let a = c.args in (
       omega arith,
       sym (any_no (λ x. leb a.bound x) a.xs.now a.n c.loop-i.i 0 (omega arith) (omega arith) (lt-leb a.bound _ c.if-bound-xs.false))
           ∙ c.loop-i.invariant.1,

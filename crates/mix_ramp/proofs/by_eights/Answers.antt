@@ -13,8 +13,7 @@ loop-i-init c =
 
 pub loop-i-preserved : goal.loop-i-preserved
 loop-i-preserved c =
-    let s = c.args in
-    (
+    let s = c.args in (
       omega arith,
       c.store.auto.d ∙ c.loop-i.invariant.1,
       c.onward-next.ensures ∙ counts_onward c.loop-i.i (omega arith) c.loop-i.invariant.2,

@@ -13,11 +13,10 @@ unfolding of_bits
 loop-k-init c = (zero-le, power_none c.args.out.now)
 
 pub loop-k-preserved : goal.loop-k-preserved
-loop-k-preserved c =
-    (
-      omega arith,
-      ap (λ (p : Float). add binary32 p (mul binary32 (get_or c.args.out.now c.loop-k.k nan) (get_or c.args.out.now c.loop-k.k nan))) c.loop-k.invariant.1 ∙ power_more c.args.out.now c.loop-k.k (omega arith),
-    )
+loop-k-preserved c = (
+  omega arith,
+  ap (λ (p : Float). add binary32 p (mul binary32 (get_or c.args.out.now c.loop-k.k nan) (get_or c.args.out.now c.loop-k.k nan))) c.loop-k.invariant.1 ∙ power_more c.args.out.now c.loop-k.k (omega arith),
+)
 
 pub returns : goal.returns
 returns c =
