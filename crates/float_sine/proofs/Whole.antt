@@ -1,7 +1,7 @@
 -- The meaning of `nearest_whole` and of `mod4`: k is the one whole number with k − ½ ≤ q < k + ½, and k mod 4 is what k leaves over a multiple of 4. Assumes nothing.
-use Rattle.std.proofs.Common.{◌≡◌, ℕ, zero, suc, ◌+◌, ◌-◌, ◌*◌, ◌/◌, ◌<◌, ◌≤◌, true, false, T, ℤ, pos, negsuc, neg_ℤ, ap, zero-lt-suc, lt_of_mul-lt-mul_right, mul-pos, div-mul-le_self, arith}
+use Rattle.std.proofs.Common.{◌≡◌, ℕ, zero, suc, ◌+◌, ◌-◌, ◌*◌, ◌/◌, ◌<◌, ◌≤◌, true, false, pos, negsuc, neg_ℤ, ap, zero-lt-suc, lt_of_mul-lt-mul_right, mul-pos, div-mul-le_self, arith}
 use native.Mathlib.Nat.{lt-div-mul-add}
-use lib.Ieee.{Float, nan, inf, fin, up, down}
+use lib.Ieee.{nan, inf, fin, up, down}
 use lib.Ieee.Fits.{down_pos}
 use Rattle.float_order.specs.Values.{is_finite}
 use Rattle.float_sine.specs.Sine.{nearest_whole, above, below, Nearest, mod4}

@@ -7,7 +7,7 @@ use native.Mathlib.Nat.{suc-add, add-suc, add-zero, zero-add, zero-mul, suc-mul,
 use native.Mathlib.Omega.{arith}
 use borrow.Author.Tests.{eq-eqb}
 use lib.Dec.{eqb}
-use lib.ListN.{length, get_or, set, take, drop, replicate, length-append, length-replicate, length-set, replicate-append-replicate, get_or-eq_default}
+use lib.ListN.{length, get_or, set, replicate, length-append, length-replicate, length-set, replicate-append-replicate}
 use lib.Seq.{sets, set-append_left, length-sets, set_comm, set-set, set-get_or, take_at, drop_at, drop-append-add}
 use Rattle.lists.specs.Lists.{Each, every, from, range, filled, part}
 use Rattle.lists.proofs.Tests.{and_both}

@@ -1,4 +1,4 @@
-use Rattle.std.proofs.Common.{◌≡◌, ℕ, suc, ◌+◌, ◌-◌, ◌*◌, ◌/◌, ◌%◌, ◌^◌, ◌<◌, ◌≤◌, sym, ap, ◌∙◌, subst, subst₂, ⊎_elim, lt_of_lt_of_le, le_of_suc-le-suc, mul_assoc, mul_comm, pow-suc, zero-add, mul-one, add-one, arith, pow_mono}
+use Rattle.std.proofs.Common.{◌≡◌, ℕ, suc, ◌+◌, ◌-◌, ◌*◌, ◌/◌, ◌%◌, ◌^◌, ◌<◌, ◌≤◌, sym, ap, ◌∙◌, subst, subst₂, lt_of_lt_of_le, le_of_suc-le-suc, mul_assoc, mul_comm, pow-suc, zero-add, mul-one, add-one, arith, pow_mono}
 use Rattle.float_root_digits.proofs.Squares.{sq_suc, sq_twice, sq_lt}
 use Rattle.float_root_digits.proofs.root_by_digits.Goals as goal
 use Rattle.float_root_digits.proofs.root_by_digits.Goals.{then-root-rem, else-root-rem}
