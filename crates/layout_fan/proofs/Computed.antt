@@ -1,6 +1,6 @@
 -- Laws of a fan's parts by what the code read and computed. Assumes nothing.
 use Prim.Native.Nat.{ℕ, ◌+◌, ◌≤◌}
-use mathlib.Core.Path.{◌≡◌, refl}
+use mathlib.Core.Path.{◌≡◌}
 use mathlib.Core.Bool.{Bool, ◌&&◌}
 use mathlib.Core.List.{List, ◌∷◌}
 use lib.Ieee.{Float, binary64, sub, neg, le}

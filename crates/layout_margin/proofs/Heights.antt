@@ -1,5 +1,5 @@
 -- The height of a point over a plane through another, by a normal that is scaled or not: each, times what it was divided by, is the same exact number but for 1,904 steps. Assumes nothing.
-use Prim.Native.Nat.{ℕ, ◌+◌, ◌*◌, ◌^◌, ◌≤◌, ◌<◌}
+use Prim.Native.Nat.{ℕ, ◌+◌, ◌*◌, ◌^◌, ◌≤◌}
 use mathlib.Core.Bool.{Bool, false}
 use lib.Dec.{lit≤, lit<}
 use lib.Ieee.{Float, binary64, unlike, sub, mul}

@@ -1,5 +1,5 @@
 -- Document 01, "Layout", the paragraph "Planar"; source lines 219 to 256: build_planar. Assumes nothing.
-use Rattle.std.specs.Prelude.{ℕ, ◌+◌, ◌%◌, cond, ◌&&◌, List, [], map, length, ◌==◌, from_bits, slice_index_or, Float}
+use Rattle.std.specs.Prelude.{ℕ, ◌+◌, ◌%◌, cond, ◌&&◌, List, map, length, ◌==◌, from_bits, slice_index_or, Float}
 use Rattle.std.proofs.Math.Option.{Option, none, some}
 use Rattle.std.specs.Float.{nan, binary32, binary64}
 use Rattle.std.specs.Float.Ieee.{sub, neg, div, lt}

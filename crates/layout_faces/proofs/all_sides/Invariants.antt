@@ -1,5 +1,5 @@
 -- `layout_faces::all_sides` meets its contract: the loop takes the points from the last on, and a side that has a point keeps it whatever points come before. Assumes nothing.
-use Prim.Native.Nat.{◌-◌, ◌≤◌}
+use Prim.Native.Nat.{◌≤◌}
 use mathlib.Core.Path.{◌≡◌}
 use Rattle.layout_faces.proofs.Heights.{sides_from}
 use Rattle.layout_faces.proofs.all_sides.Given as goal

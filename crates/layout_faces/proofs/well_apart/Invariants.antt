@@ -1,5 +1,5 @@
 -- `layout_faces::well_apart` meets its contract: each flag that is set has a point for its reason, and a triple with a point well over its plane and one well under it is no face. Assumes nothing.
-use Prim.Native.Nat.{◌-◌, ◌≤◌}
+use Prim.Native.Nat.{◌≤◌}
 use mathlib.Core.Path.{◌≡◌}
 use mathlib.Core.Bool.{true}
 use Rattle.layout_faces.proofs.Apart.{Over, Under}

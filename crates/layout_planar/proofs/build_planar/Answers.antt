@@ -1,4 +1,4 @@
-use Rattle.std.proofs.Common.{◌≡◌, ◌+◌, ◌-◌, ◌%◌, ◌≤◌, true, length, take, sym, ap, ◌∙◌, zero-le, mod-eq_of_lt, arith}
+use Rattle.std.proofs.Common.{◌≡◌, ◌+◌, ◌%◌, ◌≤◌, true, length, take, sym, ap, ◌∙◌, zero-le, mod-eq_of_lt, arith}
 use Rattle.lists.specs.Lists.{every}
 use Rattle.vector.specs.Speakers.{speakers_in}
 use Rattle.layout_planar.specs.Planar.{ring, pair_at, spot_at}

@@ -1,4 +1,4 @@
-use Rattle.std.proofs.Common.{◌≡◌, ◌-◌, zero-le, arith}
+use Rattle.std.proofs.Common.{◌≡◌, zero-le, arith}
 use lib.Ieee.{of_bits}
 use Rattle.vector.proofs.Points.{speaker_at}
 use Rattle.layout_planar.specs.Planar.{spot_of}

@@ -1,4 +1,4 @@
-use Prim.Native.Nat.{◌+◌, ◌-◌}
+use Prim.Native.Nat.{◌+◌}
 use mathlib.Core.Path.{◌≡◌, sym, ◌∙◌, subst}
 use Rattle.lists.proofs.Tests.{and_left, and_right}
 use Rattle.row_greatest.specs.Inner.Steps.{AllPassed}

@@ -1,4 +1,4 @@
-use Prim.Native.Nat.{◌+◌, ◌-◌}
+use Prim.Native.Nat.{◌+◌}
 use mathlib.Core.Path.{◌≡◌, sym, subst}
 use lib.Ieee.{div, neg, of_bits}
 use Rattle.row_greatest.specs.Inner.Steps.{Top}

@@ -1,4 +1,4 @@
-use Prim.Native.Nat.{ℕ, ◌+◌, ◌*◌, ◌-◌}
+use Prim.Native.Nat.{ℕ, ◌+◌, ◌*◌}
 use mathlib.Core.Path.{◌≡◌, subst}
 use lib.Ieee.{div, neg, of_bits}
 use Rattle.row_greatest.specs.Inner.Steps.{Lanes}

@@ -1,4 +1,4 @@
-use Prim.Native.Nat.{◌+◌, ◌-◌, zero-le}
+use Prim.Native.Nat.{◌+◌, zero-le}
 use borrow.Author.Tests.{not-false}
 use Rattle.row_greatest.proofs.Passed.{passed_none, passed_join}
 use native.Mathlib.Omega.{arith}
