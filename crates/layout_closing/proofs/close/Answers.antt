@@ -1,5 +1,4 @@
 use borrow.Author.Tests.{not-true, not-false}
-use mathlib.Core.Logic.{⊎_elim}
 use Prim.Native.Nat.{◌-◌}
 use mathlib.Core.Path.{ap, ◌∙◌}
 use mathlib.Core.List.{[], ◌∷◌}
@@ -12,12 +11,13 @@ use Rattle.layout_closing.proofs.Points.{points_filled, room_long}
 use Rattle.layout_closing.proofs.Stages.{left_start, left_turn, done_full, done_closed, done_none}
 use native.Mathlib.Omega.{arith}
 use Rattle.layout_closing.proofs.close.Goals as goal
+use Rattle.layout_closing.proofs.close.Goals.{else-loop-m-test, then-loop-m-test+then-hull, then-loop-m-test+else-hull+then-not-best}
 
 pub with_room-pts-requires : goal.with_room-pts-requires
-with_room-pts-requires c = c.with_room-arg-1.given.0
+with_room-pts-requires c = omega arith
 
 pub with_pole-top-requires : goal.with_pole-top-requires
-with_pole-top-requires c = (omega arith, room_long _ c.with_room-pts.ensures c.with_room-arg-1.given.0)
+with_pole-top-requires c = (omega arith, room_long _ c.with_room-pts.ensures (omega arith))
 
 pub with_pole-m-requires : goal.with_pole-m-requires
 with_pole-m-requires c = (omega arith, c.with_pole-top.ensures.0)
@@ -60,6 +60,9 @@ pub returns : goal.returns
 returns c =
     let a = c.args in
     let r = length_points a.n a.dir.now in
-    ⊎_elim (λ w. done_full c.loop-m.invariant r w.left)
-    (⊎_elim (λ w. done_closed c.loop-m.invariant r w.1.taken) (λ w. done_none c.loop-m.invariant r w.1.left w.3.ensures (not-true _ w.5.taken)))
-    c.loop-m-test.branch
+    elim c.loop-m-test.branch [
+      else-loop-m-test w ↦ done_full c.loop-m.invariant r w.loop-m-test.false
+      | then-loop-m-test+then-hull w ↦ done_closed c.loop-m.invariant r w.if-hull.true
+      | then-loop-m-test+else-hull+then-not-best w ↦
+        done_none c.loop-m.invariant r w.if-hull.false w.candidate-best.ensures (not-true _ w.if-not-best.true)
+    ]

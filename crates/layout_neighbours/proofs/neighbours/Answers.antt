@@ -10,23 +10,27 @@ loop-k-init c = (zero-le, nums_none _ _, rows_none _ _)
 
 pub neighbours_of-f-requires : goal.neighbours_of-f-requires
 neighbours_of-f-requires c =
-    (points_of c.requires c.neighbours_of-arg-1.given.0, (slots_of_lem c.requires c.neighbours_of-arg-in-loop-k-1.given.0, (omega arith, omega arith)))
+    record {
+      points = points_of c.requires (omega arith);
+      slots = slots_of_lem c.requires (omega arith);
+      nreal_le_p = (omega arith, omega arith);
+    }
 
 pub store-requires : goal.store-requires
 store-requires c =
-    let s = slots_of_lem c.requires c.neighbours_of-arg-in-loop-k-1.given.0 in
+    let s = slots_of_lem c.requires (omega arith) in
     let h : c.loop-k.k < 14 = omega arith in
     (all_long s _ _ h c.neighbours_of-f.ensures c.loop-k.invariant.2, found_long s _ _ h c.neighbours_of-f.ensures, h)
 
 pub overflow_cast-num_nbrs : goal.overflow_cast-num_nbrs
 overflow_cast-num_nbrs c =
-    let s = slots_of_lem c.requires c.neighbours_of-arg-in-loop-k-1.given.0 in
+    let s = slots_of_lem c.requires (omega arith) in
     let h : c.loop-k.k < 14 = omega arith in
     omega (arith, count_few s _ _ h c.neighbours_of-f.ensures)
 
 pub loop-k-preserved : goal.loop-k-preserved
 loop-k-preserved c =
-    let s = slots_of_lem c.requires c.neighbours_of-arg-in-loop-k-1.given.0 in
+    let s = slots_of_lem c.requires (omega arith) in
     let h : c.loop-k.k < 14 = omega arith in
     (omega arith, turn_nums s _ _ h c.neighbours_of-f.ensures c.loop-k.invariant.1, turn_imag s _ _ h c.neighbours_of-f.ensures c.loop-k.invariant.2 c.store.ensures)
 

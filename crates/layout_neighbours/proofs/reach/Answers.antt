@@ -9,11 +9,11 @@ use Rattle.layout_neighbours.proofs.reach.Goals.{Else-contains}
 -- a new slot has room
 found_room : (c : Else-contains) → c.args.c.found < 40
 found_room c =
-    room_found c.requires.slots c.requires.p_bound.1.1 c.args.p c.if-p-nreal.true (sym c.contains.ensures ∙ c.if-contains.false)
+    room_found c.requires.slots c.requires.held.1 c.args.p c.if-p-nreal.true (sym c.contains.ensures ∙ c.if-contains.false)
 
 pub contains-requires : goal.contains-requires
 contains-requires c =
-    (nbrs_long c.requires.p_bound.1.1, found_few c.requires.p_bound.1.1)
+    (nbrs_long c.requires.held.1, found_few c.requires.held.1)
 
 pub returns-then-contains : goal.returns-then-contains
 returns-then-contains c r h =
@@ -31,15 +31,15 @@ returns-then-p-nreal c r h =
 
 pub returns-then-visited-p : goal.returns-then-visited-p
 returns-then-visited-p c r h =
-    holds_seen c.requires.slots h c.args.p c.if-p-nreal.false c.requires.p_bound.0 c.if-visited-p.true
+    holds_seen c.requires.slots h c.args.p c.if-p-nreal.false c.requires.p_bound c.if-visited-p.true
 
 pub returns-then-n-ne0 : goal.returns-then-n-ne0
 returns-then-n-ne0 c r h =
     holds_late c.requires.slots h c.args.p c.if-p-nreal.false c.if-n-ne0.true
 
 pub overflow_add-result-2 : goal.overflow_add-result-2
-overflow_add-result-2 c = omega (arith, seen_few c.requires.p_bound.1.1)
+overflow_add-result-2 c = omega (arith, seen_few c.requires.held.1)
 
 pub returns : goal.returns
 returns c r h =
-    holds_visited c.requires.slots h c.args.p c.if-p-nreal.false c.requires.p_bound.0 c.if-visited-p.false c.if-n-ne0.false
+    holds_visited c.requires.slots h c.args.p c.if-p-nreal.false c.requires.p_bound c.if-visited-p.false c.if-n-ne0.false

@@ -12,7 +12,7 @@ use Rattle.lists.proofs.Tests.{any_flat_map, every_get_d}
 use Rattle.layout_record.proofs.Bounds.{used_parts_below}
 use Rattle.layout_record.proofs.neighbours_over.Goals as goal
 use Rattle.layout_record.proofs.neighbours_over.Invariants.{out}
-use Rattle.layout_record.proofs.neighbours_over.Goals.{After-over-arg-in-loop-k-1}
+use Rattle.layout_record.proofs.neighbours_over.Goals.{In-loop-k}
 
 -- the test of the neighbours is the test of the points
 neighbours-any : (bound : ℕ) (counts xs : List ℕ) (n : ℕ)
@@ -46,15 +46,15 @@ returns-then-greatest-bound c =
 pub loop-k-init : goal.loop-k-init
 loop-k-init c = (omega arith, refl, refl)
 
-count_fits : (c : After-over-arg-in-loop-k-1) → get_or c.args.counts.now c.loop-k.k 0 ≤ 40
+count_fits : (c : In-loop-k) → get_or c.args.counts.now c.loop-k.k 0 ≤ 40
 count_fits c =
     leb-true _ 40 (every_get_d (λ x. leb x 40) c.args.counts.now c.loop-k.k 0 refl c.requires.1)
 
 pub overflow_cast-counts : goal.overflow_cast-counts
-overflow_cast-counts c = omega (arith, count_fits c)
+overflow_cast-counts c = omega (arith, count_fits (goal.at.overflow_cast-counts c).In-loop-k)
 
 pub over-requires : goal.over-requires
-over-requires c = omega (arith, count_fits c, c.over-arg-1.given.2)
+over-requires c = omega (arith, count_fits (goal.at.over-requires c).In-loop-k)
 
 pub returns-then-over : goal.returns-then-over
 returns-then-over c =

@@ -9,7 +9,7 @@ use Rattle.row_fill.specs.Inner.Filling.{shared_by}
 use Rattle.row_fill.proofs.Places.{shared_none, shared_more}
 use native.Mathlib.Omega.{arith}
 use Rattle.row_fill.proofs.share_out.Goals as goal
-use Rattle.row_fill.proofs.share_out.Goals.{After-shared_slice_known-in-loop-k-1}
+use Rattle.row_fill.proofs.share_out.Goals.{In-loop-k}
 
 pub loop-k-init : goal.loop-k-init
 loop-k-init c =
@@ -17,15 +17,15 @@ loop-k-init c =
     (zero-le, refl, shared_none a.counts.now a.nbrs.now a.imag a.out.now)
 
 -- a count of neighbours is at most 40
-count_fits : (c : After-shared_slice_known-in-loop-k-1) → get_or c.args.counts.now c.loop-k.k 0 ≤ 40
+count_fits : (c : In-loop-k) → get_or c.args.counts.now c.loop-k.k 0 ≤ 40
 count_fits c =
     leb-true _ 40 (every_at (λ x. leb x 40) c.args.counts.now c.loop-k.k 0 c.requires.3 (omega arith))
 
 pub overflow_cast-counts : goal.overflow_cast-counts
-overflow_cast-counts c = omega (arith, count_fits c)
+overflow_cast-counts c = omega (arith, count_fits (goal.at.overflow_cast-counts c).In-loop-k)
 
 pub share-requires : goal.share-requires
-share-requires c = omega (arith, count_fits c, c.share-arg-in-loop-k-1.given.2)
+share-requires c = omega (arith, count_fits (goal.at.share-requires c).In-loop-k)
 
 pub loop-k-preserved : goal.loop-k-preserved
 loop-k-preserved c =
