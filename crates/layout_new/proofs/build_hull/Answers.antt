@@ -7,10 +7,10 @@ use Rattle.layout_new.proofs.Building.{Made, over_is, made, imag_few, numbered, 
 use Rattle.layout_new.proofs.Laid.{laid_hull}
 use Rattle.layout_new.proofs.Speakers.{count_is, slots_count, out_is, dir_long}
 use Rattle.layout_new.proofs.build_hull.Goals as goal
-use Rattle.layout_new.proofs.build_hull.Goals.{Else-ended}
+use Rattle.layout_new.proofs.build_hull.Goals.{Start, Else-ended}
 
 -- the arrays that are lent
-abbrev lent : tie.Start → Active
+abbrev lent : Start → Active
 lent s = held_in s.args.out.now s.args.dir.now s.args.n
 
 -- what `close` made where no list was too long

@@ -18,18 +18,15 @@ use Rattle.layout_new.proofs.new.Goals as goal
 use Rattle.layout_new.proofs.new.Goals.{After-active_speakers-n}
 
 -- what the arrays hold then
-abbrev held : tie.After-active-speakers → Active
-held w = held_in w.active-speakers.new.0 w.active-speakers.new.1.0 w.active-speakers.result
+abbrev held : After-active_speakers-n → Active
+held w = held_in w.active_speakers-n.new.out w.active_speakers-n.new.dir w.active_speakers-n.result
 
 module _ (w : After-active_speakers-n) where
-  abbrev given : tie.Start
-  given = w.before.before.before.before.before.before.before
-
   abbrev p : List Float
-  p = given.args.positions.now
+  p = w.args.positions.now
 
   abbrev l : List ℕ
-  l = given.args.lfe.now
+  l = w.args.lfe.now
 
   holds : Holds (held w)
   unfolding outputs_of active
@@ -42,7 +39,7 @@ module _ (w : After-active_speakers-n) where
   unfolding outputs_of active
   built-here =
       ap (built_of (outputs_of p)) (speakers_are (held w) (active p l) w.active_speakers-n.ensures (active_threes p l))
-      ∙ sym (new_built p l w.if-positions-ne0.left (omega arith))
+      ∙ sym (new_built p l w.if-positions-ne0.false (omega arith))
 
 pub returns-then-positions-ne0 : goal.returns-then-positions-ne0
 returns-then-positions-ne0 c =
