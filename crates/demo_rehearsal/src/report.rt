@@ -24,117 +24,117 @@ pub fn count(n: u8, most: usize) -> usize
     }
 }
 
-fn counted(name: &[u8], n: u8) {
-    left(name, NAMES);
-    byte(n, 2);
-    end();
+fn counted(rt: &impl Print, name: &[u8], n: u8) {
+    left(rt, name, NAMES);
+    byte(rt, n, 2);
+    end(rt);
 }
 
 // ---- speakers
 
-fn speaker(i: usize, slot: u8, x: f32, y: f32, z: f32) {
-    whole(i as u64, 5);
-    byte(slot, 6);
-    float(azimuth(x, z), 2, 9);
-    float(elevation(x, y, z), 2, 11);
-    end();
+fn speaker(rt: &impl Print, i: usize, slot: u8, x: f32, y: f32, z: f32) {
+    whole(rt, i as u64, 5);
+    byte(rt, slot, 6);
+    float(rt, azimuth(x, z), 2, 9);
+    float(rt, elevation(x, y, z), 2, 11);
+    end(rt);
 }
 
-fn speakers<'a>(out: &'a [u8; 40], dir: &'a [f32; 120], n: usize)
+fn speakers<'a>(rt: &impl Print, out: &'a [u8; 40], dir: &'a [f32; 120], n: usize)
     requires { n ≤ 40 }
 {
-    line(b"point  slot  azimuth  elevation");
+    line(rt, b"point  slot  azimuth  elevation");
     let mut i: usize = 0;
     while i < n {
         let k = i * 3;
-        speaker(i, out[i], dir[k], dir[k + 1], dir[k + 2]);
+        speaker(rt, i, out[i], dir[k], dir[k + 1], dir[k + 2]);
         i += 1;
     }
 }
 
 // ---- triplets
 
-fn triplet(a: u8, b: u8, c: u8) {
-    byte(a, 4);
-    byte(b, 3);
-    byte(c, 3);
+fn triplet(rt: &impl Print, a: u8, b: u8, c: u8) {
+    byte(rt, a, 4);
+    byte(rt, b, 3);
+    byte(rt, c, 3);
 }
 
-fn triplets(idx: &[u8; 240], n: usize)
+fn triplets(rt: &impl Print, idx: &[u8; 240], n: usize)
     requires { n ≤ 80 }
 {
     let mut t: usize = 0;
     while t < n {
         let k = t * 3;
-        triplet(idx[k], idx[k + 1], idx[k + 2]);
+        triplet(rt, idx[k], idx[k + 1], idx[k + 2]);
         t += 1;
         if (t % TRIPLETS_A_LINE == 0) | (t == n) {
-            end();
+            end(rt);
         }
     }
 }
 
 // ---- imaginary points
 
-fn neighbours(all: &[u8; 560], k: usize, n: usize)
+fn neighbours(rt: &impl Print, all: &[u8; 560], k: usize, n: usize)
     requires { (k < 14) × (n ≤ 40) }
 {
     let mut j: usize = 0;
     while j < n {
-        byte(all[k * 40 + j], 3);
+        byte(rt, all[k * 40 + j], 3);
         j += 1;
     }
-    end();
+    end(rt);
 }
 
-fn imaginary<'a>(counts: &'a [u8; 14], all: &'a [u8; 560], first: usize, n: usize)
+fn imaginary<'a>(rt: &impl Print, counts: &'a [u8; 14], all: &'a [u8; 560], first: usize, n: usize)
     requires { (first ≤ 40) × (n ≤ 14) }
 {
-    line(b"point  slots that stand in for it");
+    line(rt, b"point  slots that stand in for it");
     let mut k: usize = 0;
     while k < n {
-        whole((first + k) as u64, 5);
-        text(b" ");
-        neighbours(all, k, count(counts[k], 40));
+        whole(rt, (first + k) as u64, 5);
+        text(rt, b" ");
+        neighbours(rt, all, k, count(counts[k], 40));
         k += 1;
     }
 }
 
 // ---- all of it
 
-fn summary(made: NewPanner, p: VbapPanner) {
-    left(b"number", NAMES);
-    answer(made.number);
-    left(b"kind", NAMES);
+fn summary(rt: &impl Print, made: NewPanner, p: VbapPanner) {
+    left(rt, b"number", NAMES);
+    answer(rt, made.number);
+    left(rt, b"kind", NAMES);
     let k = p.kind;
-    kind(k);
-    end();
-    counted(b"outputs", p.num_outputs);
-    counted(b"active speakers", p.num_real);
-    counted(b"triplets", p.num_tris);
-    left(b"imaginary points", NAMES);
-    whole(made.imaginary as u64, 2);
-    end();
+    kind(rt, k);
+    end(rt);
+    counted(rt, b"outputs", p.num_outputs);
+    counted(rt, b"active speakers", p.num_real);
+    counted(rt, b"triplets", p.num_tris);
+    left(rt, b"imaginary points", NAMES);
+    whole(rt, made.imaginary as u64, 2);
+    end(rt);
 }
 
 // Of a hull, its points and triplets.
-fn hull(p: VbapPanner) {
+fn hull(rt: &impl Print, p: VbapPanner) {
     let real = count(p.num_real, 40);
-    line(b"Active speakers, in degrees:");
-    speakers(&p.pt_out, &p.pt_dir, real);
-    end();
-    text(b"Triplets, as point numbers; points from ");
-    whole(real as u64, 1);
-    line(b" on are imaginary:");
-    triplets(&p.idx, count(p.num_tris, 80));
-    end();
-    line(b"Imaginary points:");
-    imaginary(&p.num_nbrs, &p.imag_nbrs, real, count(p.num_imag, 14));
+    line(rt, b"Active speakers, in degrees:");
+    speakers(rt, &p.pt_out, &p.pt_dir, real);
+    end(rt);
+    text(rt, b"Triplets, as point numbers; points from ");
+    whole(rt, real as u64, 1);
+    line(rt, b" on are imaginary:");
+    triplets(rt, &p.idx, count(p.num_tris, 80));
+    end(rt);
+    line(rt, b"Imaginary points:");
+    imaginary(rt, &p.num_nbrs, &p.imag_nbrs, real, count(p.num_imag, 14));
 }
 
-pub fn layout(made: NewPanner) {
+pub fn layout(rt: &impl Print, made: NewPanner) {
     let p = made.panner;
-    summary(made, p);
-    end();
-    hull(p);
+    summary(rt, made, p);
+    end(rt);
+    hull(rt, p);
 }

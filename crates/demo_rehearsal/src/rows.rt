@@ -14,35 +14,35 @@ const MARGIN: usize = 79;
 // ---- the gains of a row
 
 // Begins another line where this one is full. Answers how many gains it has then.
-fn on_line(shown: usize, margin: usize) -> usize
+fn on_line(rt: &impl Print, shown: usize, margin: usize) -> usize
     ensures { result < 4 }
 {
     if shown < GAINS_A_LINE {
         return shown;
     }
-    end();
-    blanks(margin);
+    end(rt);
+    blanks(rt, margin);
     0
 }
 
-fn gain(slot: usize, g: f32, shown: usize, margin: usize) -> usize {
-    let at = on_line(shown, margin);
-    whole(slot as u64, 4);
-    float(g, 6, 9);
+fn gain(rt: &impl Print, slot: usize, g: f32, shown: usize, margin: usize) -> usize {
+    let at = on_line(rt, shown, margin);
+    whole(rt, slot as u64, 4);
+    float(rt, g, 6, 9);
     at + 1
 }
 
 // The gains that are not 0, each behind its slot, to the end of the line.
-pub fn gains_of(row: &[f32], margin: usize) {
+pub fn gains_of(rt: &impl Print, row: &[f32], margin: usize) {
     let mut shown: usize = 0;
     let mut i: usize = 0;
     while i < row.len() {
         if row[i] != 0.0 {
-            shown = gain(i, row[i], shown, margin);
+            shown = gain(rt, i, row[i], shown, margin);
         }
         i += 1;
     }
-    end();
+    end(rt);
 }
 
 // The sum of the squares, in 64 bits.
@@ -65,43 +65,43 @@ fn row_of(p: VbapPanner, az: f32, el: f32) -> [f32; 40] {
     row
 }
 
-fn show(name: &[u8], p: VbapPanner, azimuth: f32, elevation: f32) {
+fn show(rt: &impl Print, name: &[u8], p: VbapPanner, azimuth: f32, elevation: f32) {
     let az = radians(azimuth);
     let el = radians(elevation);
     let row = row_of(p, az, el);
-    left(name, 22);
-    float(azimuth, 2, 9);
-    float(elevation, 2, 11);
-    float(az, 6, 14);
-    float(el, 6, 11);
-    float(power(&row), 6, 12);
-    gains_of(&row, MARGIN);
+    left(rt, name, 22);
+    float(rt, azimuth, 2, 9);
+    float(rt, elevation, 2, 11);
+    float(rt, az, 6, 14);
+    float(rt, el, 6, 11);
+    float(rt, power(&row), 6, 12);
+    gains_of(rt, &row, MARGIN);
 }
 
-fn heading() {
-    left(b"direction", 22);
-    right(b"azimuth", 9);
-    right(b"elevation", 11);
-    right(b"in radians", 14);
-    right(b"in radians", 11);
-    right(b"squares", 12);
-    line(b"  slot gain ..");
+fn heading(rt: &impl Print) {
+    left(rt, b"direction", 22);
+    right(rt, b"azimuth", 9);
+    right(rt, b"elevation", 11);
+    right(rt, b"in radians", 14);
+    right(rt, b"in radians", 11);
+    right(rt, b"squares", 12);
+    line(rt, b"  slot gain ..");
 }
 
-pub fn table(p: VbapPanner) {
-    heading();
-    show(b"front", p, 0.0, 0.0);
-    show(b"right", p, 90.0, 0.0);
-    show(b"behind", p, 180.0, 0.0);
-    show(b"left", p, -90.0, 0.0);
-    show(b"zenith", p, 0.0, 90.0);
-    show(b"between two speakers", p, 15.0, 0.0);
-    show(b"a turn further", p, 375.0, 0.0);
-    show(b"on the second ring", p, 22.5, 30.0);
-    show(b"between three", p, 20.0, 15.0);
-    show(b"high on the left", p, -45.0, 45.0);
-    show(b"over the zenith", p, 0.0, 100.0);
-    show(b"below the horizon", p, 0.0, -30.0);
-    show(b"nadir", p, 0.0, -90.0);
-    show(b"azimuth not a number", p, 0.0 / 0.0, 0.0);
+pub fn table(rt: &impl Print, p: VbapPanner) {
+    heading(rt);
+    show(rt, b"front", p, 0.0, 0.0);
+    show(rt, b"right", p, 90.0, 0.0);
+    show(rt, b"behind", p, 180.0, 0.0);
+    show(rt, b"left", p, -90.0, 0.0);
+    show(rt, b"zenith", p, 0.0, 90.0);
+    show(rt, b"between two speakers", p, 15.0, 0.0);
+    show(rt, b"a turn further", p, 375.0, 0.0);
+    show(rt, b"on the second ring", p, 22.5, 30.0);
+    show(rt, b"between three", p, 20.0, 15.0);
+    show(rt, b"high on the left", p, -45.0, 45.0);
+    show(rt, b"over the zenith", p, 0.0, 100.0);
+    show(rt, b"below the horizon", p, 0.0, -30.0);
+    show(rt, b"nadir", p, 0.0, -90.0);
+    show(rt, b"azimuth not a number", p, 0.0 / 0.0, 0.0);
 }

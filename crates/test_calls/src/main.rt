@@ -9,6 +9,8 @@ mod report;
 
 use call::Called;
 use session_calls::Session;
+use std::io::Read;
+use std::{fs, io};
 use test_call_words::sums;
 use test_lines::report::is_shown;
 use test_lines::values::Value;
@@ -59,12 +61,12 @@ fn numbered(numbers: &mut [u64; 12], number: usize) {
 }
 
 // Writes a line that differs where it is among the first five. Answers how many lines differ so far.
-fn told(line: &[u8], number: u64, differences: u64, outcome: Outcome) -> u64 {
+fn told(out: &impl Print, line: &[u8], number: u64, differences: u64, outcome: Outcome) -> u64 {
     if let Outcome::Same = outcome {
         return differences;
     }
     if is_shown(differences) {
-        report::differs(line, number, outcome);
+        report::differs(out, line, number, outcome);
     }
     std::num::wrapping_add_u64(differences, 1)
 }
@@ -95,7 +97,7 @@ fn called(
 }
 
 // The end of a list.
-fn ended(line: &[u8], w: Walk, number: u64, h: Held) -> Held {
+fn ended(out: &impl Print, line: &[u8], w: Walk, number: u64, h: Held) -> Held {
     let session = h.session;
     let outcome = if h.is_begun {
         ending::check_end(line, w, session, h.sum)
@@ -106,11 +108,12 @@ fn ended(line: &[u8], w: Walk, number: u64, h: Held) -> Held {
         session,
         sum: sums::START,
         is_begun: false,
-        differences: told(line, number, h.differences, outcome),
+        differences: told(out, line, number, h.differences, outcome),
     }
 }
 
 fn replay_line(
+    out: &impl Print,
     line: &[u8],
     number: u64,
     counts: &mut [u64; 7],
@@ -125,7 +128,7 @@ fn replay_line(
     let w = Walk { next, good: true };
     counted(counts, place);
     if place == 6 {
-        return ended(line, w, number, h);
+        return ended(out, line, w, number, h);
     }
     let c = called(line, w, place, samples, outputs, h);
     numbered(numbers, c.number as usize);
@@ -135,7 +138,7 @@ fn replay_line(
         session,
         sum: c.sum,
         is_begun: h.is_begun | (place < 2),
-        differences: told(line, number, h.differences, outcome),
+        differences: told(out, line, number, h.differences, outcome),
     }
 }
 
@@ -161,45 +164,47 @@ fn start() -> Held {
 }
 
 // How many lines differ, of so many: a list that has no end counts as one.
-fn differences_of(number: u64, h: Held) -> u64 {
+fn differences_of(out: &impl Print, number: u64, h: Held) -> u64 {
     if h.is_begun {
-        return told(b"", number, h.differences, Outcome::Malformed);
+        return told(out, b"", number, h.differences, Outcome::Malformed);
     }
     h.differences
 }
 
 // All lines: how many differ.
 fn replay_all(
-    from: i32,
+    out: &impl Print,
+    input: &mut impl Read,
     counts: &mut [u64; 7],
     numbers: &mut [u64; 12],
     samples: &mut [f32; SAMPLES],
     outputs: &mut [f32; OUTPUTS],
 ) -> u64 {
-    let mut buf = io::large_buffer();
-    let mut l = lines::first(from, &mut buf);
+    let mut buf = lines::large_buffer();
+    let mut l = lines::first(input, &mut buf);
     let mut h = start();
     while l.left > 0 {
         let line = lines::line_of(&buf, l);
-        h = replay_line(line, l.number, counts, numbers, samples, outputs, h);
-        l = lines::next(from, &mut buf, l);
+        h = replay_line(out, line, l.number, counts, numbers, samples, outputs, h);
+        l = lines::next(input, &mut buf, l);
     }
-    differences_of(l.number, h)
+    differences_of(out, l.number, h)
 }
 
-// The lists of a descriptor, and what they come to.
-fn replay(from: i32) {
+// The lists of a reader, and what they come to.
+fn replay(out: &impl Print, input: &mut impl Read) {
     let mut counts = [0u64; 7];
     let mut numbers = [0u64; 12];
     let mut samples = [0.0f32; SAMPLES];
     let mut outputs = [0.0f32; OUTPUTS];
-    let differences = replay_all(from, &mut counts, &mut numbers, &mut samples, &mut outputs);
-    report::totals(&counts, &numbers, differences);
+    let differences = replay_all(out, input, &mut counts, &mut numbers, &mut samples, &mut outputs);
+    report::totals(out, &counts, &numbers, differences);
 }
 
 // The lists of standard input, none of which may differ; then those of the file `faults`, wrong expectations and malformed lines, which all have to be found.
-fn main() {
-    replay(libc::STDIN_FILENO);
-    report::faults();
-    replay(os::open_read(b"faults"));
+fn main(rt: HostRuntime) -> io::Result<()> {
+    replay(&rt, &mut rt.reader());
+    report::faults(&rt);
+    replay(&rt, &mut fs::open(&rt, "faults")?);
+    Ok(())
 }

@@ -87,6 +87,7 @@ fn counted(counts: &mut [u64; 27], place: usize) {
 
 // Checks a line and writes it where it differs and is among the first five. Answers how many lines differ so far.
 fn replay_line(
+    out: &impl Print,
     line: &[u8],
     is_whole: bool,
     number: u64,
@@ -95,7 +96,7 @@ fn replay_line(
     differences: u64,
 ) -> u64 {
     if !is_whole {
-        return malformed(line, number, differences);
+        return malformed(out, line, number, differences);
     }
     let name = named(line, names);
     let next = name.next;
@@ -114,39 +115,40 @@ fn replay_line(
         } => {
             counted(counts, place);
             if is_shown(differences) {
-                report::differs(line, number, form, results, first, second);
+                report::differs(out, line, number, form, results, first, second);
             }
             std::num::wrapping_add_u64(differences, 1)
         }
-        Outcome::Malformed => malformed(line, number, differences),
+        Outcome::Malformed => malformed(out, line, number, differences),
     }
 }
 
-fn malformed(line: &[u8], number: u64, differences: u64) -> u64 {
+fn malformed(out: &impl Print, line: &[u8], number: u64, differences: u64) -> u64 {
     if is_shown(differences) {
-        report::malformed(line, number);
+        report::malformed(out, line, number);
     }
     std::num::wrapping_add_u64(differences, 1)
 }
 
 // All lines: how many differ.
-fn replay_all(names: &[u8], counts: &mut [u64; 27]) -> u64 {
-    let mut buf = io::large_buffer();
-    let mut l = lines::first(libc::STDIN_FILENO, &mut buf);
+fn replay_all(rt: &(impl Input + Print), names: &[u8], counts: &mut [u64; 27]) -> u64 {
+    let mut input = rt.reader();
+    let mut buf = lines::large_buffer();
+    let mut l = lines::first(&mut input, &mut buf);
     let mut differences: u64 = 0;
     while l.left > 0 {
         let line = lines::bytes_of(&buf, l);
-        differences = replay_line(line, l.is_whole, l.number, names, counts, differences);
-        l = lines::next(libc::STDIN_FILENO, &mut buf, l);
+        differences = replay_line(rt, line, l.is_whole, l.number, names, counts, differences);
+        l = lines::next(&mut input, &mut buf, l);
     }
     differences
 }
 
-pub fn run() {
+pub fn run(rt: &(impl Input + Print)) {
     // Places 0 to 26, in the order of functions.rt.
     let names =
         b"sqrt32 clamp abs32 powi4 sin32 cos32 is_finite32 sign_bit32 widen sin_cos32 max32 min32 rem_euclid32 sqrt64 abs64 sin64 cos64 atan64 is_finite64 sign_bit64 narrow sin_cos64 max64 rem_euclid64 atan2 f32_from_u64 f64_from_u64";
     let mut counts = [0u64; 27];
-    let differences = replay_all(names, &mut counts);
-    report::totals(names, &counts, differences);
+    let differences = replay_all(rt, names, &mut counts);
+    report::totals(rt, names, &counts, differences);
 }

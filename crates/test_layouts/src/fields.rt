@@ -1,7 +1,6 @@
 // What `layout_new::new` answers, field by field: a number for each, and its name for people.
 // Origin of the numbers: counted from 0, in the order of a line (docs/CASES.md); they only tell the fields apart.
-use io::write_all;
-use libc::STDOUT_FILENO;
+use test_lines::report::write_all;
 
 pub const NONE: u32 = 0;
 
@@ -52,43 +51,43 @@ pub const NUM_NBRS: u32 = 22;
 pub const IMAG_NBRS: u32 = 23;
 
 // The name of a field before the hull's.
-fn write_early(field: u32) -> bool {
+fn write_early(out: &impl Print, field: u32) -> bool {
     match field {
-        1 => write_all(STDOUT_FILENO, b"malformed"),
-        2 => write_all(STDOUT_FILENO, b"number"),
-        3 => write_all(STDOUT_FILENO, b"imaginary"),
-        4 => write_all(STDOUT_FILENO, b"num_outputs"),
-        5 => write_all(STDOUT_FILENO, b"kind"),
-        6 => write_all(STDOUT_FILENO, b"mono"),
-        7 => write_all(STDOUT_FILENO, b"num_pairs"),
-        8 => write_all(STDOUT_FILENO, b"pairs.start"),
-        9 => write_all(STDOUT_FILENO, b"pairs.gap"),
-        10 => write_all(STDOUT_FILENO, b"pairs.a"),
-        11 => write_all(STDOUT_FILENO, b"pairs.b"),
-        12 => write_all(STDOUT_FILENO, b"pairs.law"),
-        13 => write_all(STDOUT_FILENO, b"num_slots"),
-        _ => write_all(STDOUT_FILENO, b"slots"),
+        1 => write_all(out, b"malformed"),
+        2 => write_all(out, b"number"),
+        3 => write_all(out, b"imaginary"),
+        4 => write_all(out, b"num_outputs"),
+        5 => write_all(out, b"kind"),
+        6 => write_all(out, b"mono"),
+        7 => write_all(out, b"num_pairs"),
+        8 => write_all(out, b"pairs.start"),
+        9 => write_all(out, b"pairs.gap"),
+        10 => write_all(out, b"pairs.a"),
+        11 => write_all(out, b"pairs.b"),
+        12 => write_all(out, b"pairs.law"),
+        13 => write_all(out, b"num_slots"),
+        _ => write_all(out, b"slots"),
     }
 }
 
 // The name of a field of the hull.
-fn write_late(field: u32) -> bool {
+fn write_late(out: &impl Print, field: u32) -> bool {
     match field {
-        15 => write_all(STDOUT_FILENO, b"num_real"),
-        16 => write_all(STDOUT_FILENO, b"pt_out"),
-        17 => write_all(STDOUT_FILENO, b"pt_dir"),
-        18 => write_all(STDOUT_FILENO, b"num_tris"),
-        19 => write_all(STDOUT_FILENO, b"idx"),
-        20 => write_all(STDOUT_FILENO, b"inv"),
-        21 => write_all(STDOUT_FILENO, b"num_imag"),
-        22 => write_all(STDOUT_FILENO, b"num_nbrs"),
-        _ => write_all(STDOUT_FILENO, b"imag_nbrs"),
+        15 => write_all(out, b"num_real"),
+        16 => write_all(out, b"pt_out"),
+        17 => write_all(out, b"pt_dir"),
+        18 => write_all(out, b"num_tris"),
+        19 => write_all(out, b"idx"),
+        20 => write_all(out, b"inv"),
+        21 => write_all(out, b"num_imag"),
+        22 => write_all(out, b"num_nbrs"),
+        _ => write_all(out, b"imag_nbrs"),
     }
 }
 
-pub fn write_name(field: u32) -> bool {
+pub fn write_name(out: &impl Print, field: u32) -> bool {
     if field < NUM_REAL {
-        return write_early(field);
+        return write_early(out, field);
     }
-    write_late(field)
+    write_late(out, field)
 }

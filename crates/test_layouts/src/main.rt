@@ -61,7 +61,7 @@ fn check_line(line: &[u8]) -> u32 {
 }
 
 // With a case more. Writes its line where it differs and is among the first five.
-fn replay_line(line: &[u8], number: u64, c: Counts) -> Counts {
+fn replay_line(out: &impl Print, line: &[u8], number: u64, c: Counts) -> Counts {
     let fault = check_line(line);
     let cases = std::num::wrapping_add_u64(c.cases, 1);
     if fault == NONE {
@@ -71,7 +71,7 @@ fn replay_line(line: &[u8], number: u64, c: Counts) -> Counts {
         };
     }
     if is_shown(c.differences) {
-        report::differs(number, fault);
+        report::differs(out, number, fault);
     }
     Counts {
         cases,
@@ -79,21 +79,22 @@ fn replay_line(line: &[u8], number: u64, c: Counts) -> Counts {
     }
 }
 
-fn replay_all() -> Counts {
-    let mut buf = io::large_buffer();
-    let mut l = lines::first(libc::STDIN_FILENO, &mut buf);
+fn replay_all(rt: &(impl Input + Print)) -> Counts {
+    let mut input = rt.reader();
+    let mut buf = lines::large_buffer();
+    let mut l = lines::first(&mut input, &mut buf);
     let mut c = Counts {
         cases: 0,
         differences: 0,
     };
     while l.left > 0 {
-        c = replay_line(lines::line_of(&buf, l), l.number, c);
-        l = lines::next(libc::STDIN_FILENO, &mut buf, l);
+        c = replay_line(rt, lines::line_of(&buf, l), l.number, c);
+        l = lines::next(&mut input, &mut buf, l);
     }
     c
 }
 
-fn main() {
-    let c = replay_all();
-    test_lines::report::ended(c.cases, c.differences);
+fn main(rt: HostRuntime) {
+    let c = replay_all(&rt);
+    test_lines::report::ended(&rt, c.cases, c.differences);
 }

@@ -1,10 +1,9 @@
 // What a replay writes to standard output.
-use io::write_all;
-use libc::STDOUT_FILENO;
+use test_lines::report::write_all;
 
 // The number of a line, and the first field that differs.
-pub fn differs(number: u64, field: u32) {
-    test_lines::report::heading(b"", number);
-    crate::fields::write_name(field);
-    write_all(STDOUT_FILENO, b"\n");
+pub fn differs(out: &impl Print, number: u64, field: u32) {
+    test_lines::report::heading(out, b"", number);
+    crate::fields::write_name(out, field);
+    write_all(out, b"\n");
 }

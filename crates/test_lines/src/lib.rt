@@ -1,4 +1,4 @@
-// A list of cases: lines of words, read from a descriptor into a lent buffer. docs/CASES.md has the format.
+// A list of cases: lines of words, read from a reader into a lent buffer. docs/CASES.md has the format.
 //
 // A line is a part of the buffer, and a cursor by value goes from word to word of it.
 #![tactic(auto)]

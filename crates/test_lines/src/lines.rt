@@ -3,9 +3,15 @@ ghost use Rattle.std.specs.Prelude.{◌≡◌, ◌-◌, ◌≤◌, length};
 
 use crate::find;
 use crate::values::byte_at;
+use std::io::Read;
 
 // What a list is read into. Origin: docs/CASES.md, "Lines".
 pub type Buffer = [u8; 65536];
+
+// A buffer of zeros.
+pub fn large_buffer() -> Buffer {
+    [0; 65536]
+}
 
 // The case at hand, and what is left to read behind it.
 #[derive(Clone, Copy)]
@@ -56,21 +62,36 @@ fn to_front(buf: &mut [u8], from: usize, to: usize) -> usize
     n
 }
 
+// Reads until a buffer is full, the input ends or a read fails, and answers how many bytes it put at its start.
+fn read_full(input: &mut impl Read, buf: &mut [u8]) -> usize
+    ensures { result ≤ length buf.new }
+{
+    let mut done = 0;
+    while done < buf.len() {
+        let got = input.read(&mut buf[done..]).unwrap_or(0);
+        if got == 0 {
+            break;
+        }
+        done += got;
+    }
+    done
+}
+
 // Reads on after the bytes that the buffer holds, and answers how many it then holds.
-fn fill(fd: i32, buf: &mut [u8], held: usize) -> usize
+fn fill(input: &mut impl Read, buf: &mut [u8], held: usize) -> usize
     requires { held ≤ length buf.old }
 {
-    let got = io::read_full(fd, &mut buf[held..]);
+    let got = read_full(input, &mut buf[held..]);
     held + got
 }
 
 // With more bytes behind those that no line has taken.
-fn refilled(fd: i32, buf: &mut [u8], c: Lines) -> Lines
+fn refilled(input: &mut impl Read, buf: &mut [u8], c: Lines) -> Lines
     requires { (c.next ≤ c.held) × (c.held ≤ length buf.old) }
     ensures { result.left ≤ c.left }
 {
     let kept = to_front(buf, c.next, c.held);
-    let held = fill(fd, buf, kept);
+    let held = fill(input, buf, kept);
     let mut l = c;
     l.is_case = false;
     l.next = 0;
@@ -106,7 +127,7 @@ fn ended(c: Lines) -> Lines
 }
 
 // The next line, or more bytes to find its end in. A read that fails ends the input.
-fn step(fd: i32, buf: &mut [u8], c: Lines) -> Lines
+fn step(input: &mut impl Read, buf: &mut [u8], c: Lines) -> Lines
     ensures { result.left ≤ c.left }
 {
     let next = c.next;
@@ -127,16 +148,16 @@ fn step(fd: i32, buf: &mut [u8], c: Lines) -> Lines
     if c.is_ended | (held - next == buf.len()) {
         return line_to(c, held, held, false, false);
     }
-    refilled(fd, buf, c)
+    refilled(input, buf, c)
 }
 
-fn next_in(fd: i32, buf: &mut [u8], c: Lines) -> Lines
+fn next_in(input: &mut impl Read, buf: &mut [u8], c: Lines) -> Lines
     ensures { result.left ≤ c.left - 1 }
 {
     let mut l = c;
     while l.left > 0 {
         l.left -= 1;
-        l = step(fd, buf, l);
+        l = step(input, buf, l);
         if l.is_case {
             return l;
         }
@@ -145,14 +166,14 @@ fn next_in(fd: i32, buf: &mut [u8], c: Lines) -> Lines
 }
 
 // The next case.
-pub fn next(fd: i32, buf: &mut Buffer, c: Lines) -> Lines
+pub fn next(input: &mut impl Read, buf: &mut Buffer, c: Lines) -> Lines
     ensures { result.left ≤ c.left - 1 }
 {
-    next_in(fd, buf, c)
+    next_in(input, buf, c)
 }
 
 // The first case.
-pub fn first(fd: i32, buf: &mut Buffer) -> Lines {
+pub fn first(input: &mut impl Read, buf: &mut Buffer) -> Lines {
     let c = Lines {
         from: 0,
         to: 0,
@@ -165,7 +186,7 @@ pub fn first(fd: i32, buf: &mut Buffer) -> Lines {
         is_ended: false,
         is_rest: false,
     };
-    next(fd, buf, c)
+    next(input, buf, c)
 }
 
 // The bytes of the line at hand.

@@ -1,6 +1,6 @@
 // Replays the cases of the number work: widths, roots, order, signs and remainder.
 #![tactic(auto)]
 
-fn main() {
-    test_floats::run();
+fn main(rt: HostRuntime) {
+    test_floats::run(&rt);
 }

@@ -76,18 +76,18 @@ fn check_mix(line: &[u8], c: Cursor) -> Outcome {
 // ---- a line
 
 // Writes a line that differs where it is among the first five. Answers how many lines differ so far.
-fn told(line: &[u8], number: u64, differences: u64, outcome: Outcome) -> u64 {
+fn told(out: &impl Print, line: &[u8], number: u64, differences: u64, outcome: Outcome) -> u64 {
     if let Outcome::Same = outcome {
         return differences;
     }
     if is_shown(differences) {
-        report::differs(line, number, outcome);
+        report::differs(out, line, number, outcome);
     }
     std::num::wrapping_add_u64(differences, 1)
 }
 
 // With a case more.
-fn replay_line(line: &[u8], number: u64, c: Counts) -> Counts {
+fn replay_line(out: &impl Print, line: &[u8], number: u64, c: Counts) -> Counts {
     let name = named(line, b"ramp_add normalized_lerp_gain");
     let place = name.place;
     let next = name.next;
@@ -95,37 +95,38 @@ fn replay_line(line: &[u8], number: u64, c: Counts) -> Counts {
         0 => Counts {
             ramps: std::num::wrapping_add_u64(c.ramps, 1),
             mixes: c.mixes,
-            differences: told(line, number, c.differences, check_ramp(line, next)),
+            differences: told(out, line, number, c.differences, check_ramp(line, next)),
         },
         1 => Counts {
             ramps: c.ramps,
             mixes: std::num::wrapping_add_u64(c.mixes, 1),
-            differences: told(line, number, c.differences, check_mix(line, next)),
+            differences: told(out, line, number, c.differences, check_mix(line, next)),
         },
         _ => Counts {
             ramps: c.ramps,
             mixes: c.mixes,
-            differences: told(line, number, c.differences, Outcome::Malformed),
+            differences: told(out, line, number, c.differences, Outcome::Malformed),
         },
     }
 }
 
-fn replay_all() -> Counts {
-    let mut buf = io::large_buffer();
-    let mut l = lines::first(libc::STDIN_FILENO, &mut buf);
+fn replay_all(rt: &(impl Input + Print)) -> Counts {
+    let mut input = rt.reader();
+    let mut buf = lines::large_buffer();
+    let mut l = lines::first(&mut input, &mut buf);
     let mut c = Counts {
         ramps: 0,
         mixes: 0,
         differences: 0,
     };
     while l.left > 0 {
-        c = replay_line(lines::line_of(&buf, l), l.number, c);
-        l = lines::next(libc::STDIN_FILENO, &mut buf, l);
+        c = replay_line(rt, lines::line_of(&buf, l), l.number, c);
+        l = lines::next(&mut input, &mut buf, l);
     }
     c
 }
 
-fn main() {
-    let c = replay_all();
-    report::totals(c.ramps, c.mixes, c.differences);
+fn main(rt: HostRuntime) {
+    let c = replay_all(&rt);
+    report::totals(&rt, c.ramps, c.mixes, c.differences);
 }

@@ -97,17 +97,17 @@ fn asked(line: &[u8], w: Walk, place: usize, p: VbapPanner) -> Outcome {
 }
 
 // Writes a line that differs where it is among the first five. Answers how many lines differ so far.
-fn told(line: &[u8], number: u64, differences: u64, outcome: Outcome) -> u64 {
+fn told(out: &impl Print, line: &[u8], number: u64, differences: u64, outcome: Outcome) -> u64 {
     if let Outcome::Same = outcome {
         return differences;
     }
     if is_shown(differences) {
-        report::differs(line, number, outcome);
+        report::differs(out, line, number, outcome);
     }
     std::num::wrapping_add_u64(differences, 1)
 }
 
-fn replay_line(line: &[u8], number: u64, counts: &mut [u64; 4], h: Held) -> Held {
+fn replay_line(out: &impl Print, line: &[u8], number: u64, counts: &mut [u64; 4], h: Held) -> Held {
     let name = named(line, b"layout record gains num_outputs");
     let place = name.place;
     let next = name.next;
@@ -119,14 +119,14 @@ fn replay_line(line: &[u8], number: u64, counts: &mut [u64; 4], h: Held) -> Held
         let outcome = made.outcome;
         return Held {
             panner,
-            differences: told(line, number, h.differences, outcome),
+            differences: told(out, line, number, h.differences, outcome),
         };
     }
     let panner = h.panner;
     let outcome = asked(line, w, place, panner);
     Held {
         panner,
-        differences: told(line, number, h.differences, outcome),
+        differences: told(out, line, number, h.differences, outcome),
     }
 }
 
@@ -143,19 +143,20 @@ fn start() -> Held {
 }
 
 // All lines: how many differ.
-fn replay_all(counts: &mut [u64; 4]) -> u64 {
-    let mut buf = io::large_buffer();
-    let mut l = lines::first(libc::STDIN_FILENO, &mut buf);
+fn replay_all(rt: &(impl Input + Print), counts: &mut [u64; 4]) -> u64 {
+    let mut input = rt.reader();
+    let mut buf = lines::large_buffer();
+    let mut l = lines::first(&mut input, &mut buf);
     let mut h = start();
     while l.left > 0 {
-        h = replay_line(lines::line_of(&buf, l), l.number, counts, h);
-        l = lines::next(libc::STDIN_FILENO, &mut buf, l);
+        h = replay_line(rt, lines::line_of(&buf, l), l.number, counts, h);
+        l = lines::next(&mut input, &mut buf, l);
     }
     h.differences
 }
 
-fn main() {
+fn main(rt: HostRuntime) {
     let mut counts = [0u64; 4];
-    let differences = replay_all(&mut counts);
-    report::totals(&counts, differences);
+    let differences = replay_all(&rt, &mut counts);
+    report::totals(&rt, &counts, differences);
 }

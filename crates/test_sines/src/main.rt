@@ -1,6 +1,6 @@
 // Replays the cases of the stand-ins: sine and cosine, each and together, arctangent and atan2.
 #![tactic(auto)]
 
-fn main() {
-    test_floats::run();
+fn main(rt: HostRuntime) {
+    test_floats::run(&rt);
 }
