@@ -15,6 +15,9 @@ pub enum Size {
     Nan,
 }
 
+// The greatest exponent's field of a number below 2^24. Origin: a field of 151 is 2^24, since a field of 127 is 1.
+const BELOW_LARGE: u32 = 150;
+
 // 10^places.
 pub fn power(places: u32) -> u64
     requires { places ≤ 6 }
@@ -82,8 +85,7 @@ pub fn decimal(x: f32, places: u32) -> Size
     // Origin: IEEE 754-2019, table 3.5: the exponent's field, of weight 2^23, and the digits of a binary32
     let e = b % 0x8000_0000 / 0x80_0000;
     let t = (b % 0x80_0000) as u64;
-    // Origin: a field of 151 is 2^24, since a field of 127 is 1
-    if e > 150 {
+    if e > BELOW_LARGE {
         return Size::Large;
     }
     if e == 0 {

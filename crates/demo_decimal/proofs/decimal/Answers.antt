@@ -39,9 +39,9 @@ returns-then-x c = nan_is _ c.args.x (differs_from_itself c.args.x (subst T (sym
 pub float_to_bits-b : goal.float_to_bits-b
 float_to_bits-b c = real c
 
-pub returns-then-e-gt150 : goal.returns-then-e-gt150
-returns-then-e-gt150 c =
-    large_is c.args.places c.args.x (held (goal.at.returns-then-e-gt150 c).Start) (real (goal.at.returns-then-e-gt150 c).Else-x) c.if-e-gt150.true
+pub returns-then-e-gt-BELOW_LARGE : goal.returns-then-e-gt-BELOW_LARGE
+returns-then-e-gt-BELOW_LARGE c =
+    large_is c.args.places c.args.x (held (goal.at.returns-then-e-gt-BELOW_LARGE c).Start) (real (goal.at.returns-then-e-gt-BELOW_LARGE c).Else-x) c.if-e-gt-BELOW_LARGE.true
 
 pub overflow_mul-t : goal.overflow_mul-t
 overflow_mul-t c = let l = low_product c in omega arith
@@ -64,4 +64,4 @@ pub returns : goal.returns
 returns c =
     let b = to_bits binary32 c.args.x in
     ap Steps (c.closest-2.ensures ∙ ap (λ (n : ℕ). closest ((b % 8388608 + 8388608) * n) (2 ^ (150 - b % 2147483648 / 8388608))) c.power-2.ensures.0)
-    ∙ mid_is c.args.places c.args.x (held (goal.at.returns c).Start) c.if-e-eq0.false c.if-e-gt150.false
+    ∙ mid_is c.args.places c.args.x (held (goal.at.returns c).Start) c.if-e-eq0.false c.if-e-gt-BELOW_LARGE.false
