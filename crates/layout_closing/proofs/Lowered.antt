@@ -1,16 +1,16 @@
 -- A float less one above 0 is not above itself: the difference is rounded to nearest, and the float itself is one that the format holds. Assumes nothing.
-use Prim.Native.Nat.{ℕ, zero, suc, ◌+◌, ◌-◌, ◌*◌, ◌^◌, ◌≤◌, ◌<◌}
+use Prim.Native.Nat.{ℕ, suc, ◌+◌, ◌-◌, ◌*◌, ◌^◌, ◌≤◌, ◌<◌}
 use mathlib.Core.Path.{◌≡◌, refl, sym, ap, ◌∙◌, subst}
 use mathlib.Core.Logic.{◌⊎◌, inl, inr}
-use mathlib.Core.Bool.{Bool, true, false, not, cond, true≢false}
+use mathlib.Core.Bool.{Bool, true, false, cond, true≢false}
 use native.Mathlib.Nat.{lt_of_le_of_lt, mul-le-mul_right}
 use native.Mathlib.Omega.{arith}
 use lib.Dec.{T, ltb, ltb→lt}
 use lib.Pow.{pow_pos}
-use lib.Ieee.{Float, nan, inf, fin, Format, binary64, prec, low, up, down, odd, units, round, add, sub, neg, lt, fits}
+use lib.Ieee.{Float, nan, inf, fin, Format, binary64, prec, low, odd, units, round, add, sub, neg, lt, fits}
 use lib.Ieee.Fits.{round_is}
 use lib.Ieee.Order.{drop, kept}
-use lib.Ieee.Scale.{grid, overflow, finite}
+use lib.Ieee.Scale.{grid, overflow}
 use Rattle.float_bounds.proofs.Units.{Val, round_Val, neg_val, sub_is}
 use Rattle.float_bounds.proofs.Held.{grid_le, grid_ge, fits_held}
 use Rattle.float_bounds.proofs.Compare.{lt_val}

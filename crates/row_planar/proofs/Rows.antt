@@ -1,5 +1,5 @@
 -- Laws of the spread: its slots one after another. Assumes nothing.
-use Rattle.std.proofs.Common.{◌≡◌, ℕ, ◌+◌, ◌<◌, ◌≤◌, true, false, List, [], length, get_or, take, set, sym, ap, ◌∙◌, add-one, arith, length-take-le, take-suc}
+use Rattle.std.proofs.Common.{◌≡◌, ℕ, ◌+◌, ◌<◌, ◌≤◌, true, false, List, [], length, get_or, take, set, sym, ap, add-one, length-take-le, take-suc}
 use mathlib.Core.List.{foldl}
 use lib.Seq.{set_out}
 use lib.Ieee.{Float, nan, binary32, div, lt}

@@ -1,5 +1,4 @@
 use borrow.Author.Tests.{not-true, not-false}
-use Prim.Native.Nat.{◌-◌}
 use mathlib.Core.Path.{ap, ◌∙◌}
 use mathlib.Core.List.{[], ◌∷◌}
 use lib.Ieee.{neg, of_bits}
@@ -61,8 +60,8 @@ returns c =
     let a = c.args in
     let r = length_points a.n a.dir.now in
     elim c.loop-m-test.branch [
-      else-loop-m-test w ↦ done_full c.loop-m.invariant r w.loop-m-test.false
+      | else-loop-m-test w ↦ done_full c.loop-m.invariant r w.loop-m-test.false
       | then-loop-m-test+then-hull w ↦ done_closed c.loop-m.invariant r w.if-hull.true
       | then-loop-m-test+else-hull+then-not-best w ↦
-        done_none c.loop-m.invariant r w.if-hull.false w.candidate-best.ensures (not-true _ w.if-not-best.true)
+          done_none c.loop-m.invariant r w.if-hull.false w.candidate-best.ensures (not-true _ w.if-not-best.true)
     ]

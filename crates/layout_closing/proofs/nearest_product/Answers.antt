@@ -1,4 +1,4 @@
-use Prim.Native.Nat.{◌-◌, zero-le}
+use Prim.Native.Nat.{zero-le}
 use mathlib.Core.Path.{◌≡◌, sym, ◌∙◌}
 use lib.Ieee.{div, neg, of_bits}
 use Rattle.lists.specs.Lists.{part}

@@ -1,4 +1,4 @@
-use Prim.Native.Nat.{suc, ◌≤◌, ◌-◌}
+use Prim.Native.Nat.{suc, ◌≤◌}
 use mathlib.Core.Path.{◌≡◌, refl}
 use mathlib.Core.Bool.{true}
 use native.Mathlib.Numerals.{add-one}
@@ -19,10 +19,10 @@ pub loop-i-preserved : goal.loop-i-preserved
 loop-i-preserved c =
     let more : every (λ x. leb x c.if-m-xs.m) (take (suc c.loop-i.i) c.args.xs.now) ≡ true =
     elim c.if-m-xs.branch [
-      then-m-xs w ↦
-        below_snoc c.if-m-xs.m c.args.xs.now c.loop-i.i (omega arith) (omega arith) (below_more c.loop-i.m c.if-m-xs.m (take c.loop-i.i c.args.xs.now) (omega arith) c.loop-i.invariant.1)
+      | then-m-xs w ↦
+          below_snoc c.if-m-xs.m c.args.xs.now c.loop-i.i (omega arith) (omega arith) (below_more c.loop-i.m c.if-m-xs.m (take c.loop-i.i c.args.xs.now) (omega arith) c.loop-i.invariant.1)
       | else-m-xs w ↦
-        below_snoc c.if-m-xs.m c.args.xs.now c.loop-i.i (omega arith) (omega arith) (below_more c.loop-i.m c.if-m-xs.m (take c.loop-i.i c.args.xs.now) (omega arith) c.loop-i.invariant.1)
+          below_snoc c.if-m-xs.m c.args.xs.now c.loop-i.i (omega arith) (omega arith) (below_more c.loop-i.m c.if-m-xs.m (take c.loop-i.i c.args.xs.now) (omega arith) c.loop-i.invariant.1)
     ] in
     (omega arith, rw add-one more)
 

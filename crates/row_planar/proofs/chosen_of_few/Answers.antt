@@ -1,4 +1,4 @@
-use Rattle.std.proofs.Common.{◌-◌, ◌≤◌, length, sym, ◌∙◌, arith}
+use Rattle.std.proofs.Common.{◌≤◌, length, sym, ◌∙◌, arith}
 use Rattle.row_planar.proofs.Branches.{found_start, found_here, found_on, found_last}
 use Rattle.row_planar.proofs.chosen_of_few.Goals as goal
 use Rattle.row_planar.proofs.chosen_of_few.Goals.{Start}

@@ -1,4 +1,4 @@
-use Rattle.std.proofs.Common.{◌≡◌, ℕ, ◌-◌, length, take, refl, ap, ◌∙◌, arith}
+use Rattle.std.proofs.Common.{◌≡◌, ℕ, length, take, refl, ap, ◌∙◌, arith}
 use mathlib.Core.List.{foldl}
 use borrow.Author.Tests.{not-true, not-false}
 use lib.Ieee.{Float, binary32, div, lt, of_bits}
