@@ -1,4 +1,3 @@
-use Prim.Native.Nat.{◌-◌}
 use mathlib.Core.Path.{refl, sym, ap, ◌∙◌}
 use native.Mathlib.Omega.{arith}
 use borrow.Author.Tests.{eq-eqb, ne_eqb}
@@ -22,8 +21,7 @@ returns-then-lfe-k c =
 pub loop-k-preserved : goal.loop-k-preserved
 loop-k-preserved c =
     let a = c.args in
-    let l = a.lfe.now in
-    (
+    let l = a.lfe.now in (
       omega arith,
       sym (any_no (λ q. eqb q a.i) l (length l) c.loop-k.k 0 (omega arith) (omega arith) (ne_eqb _ a.i c.if-lfe-k.false)) ∙ c.loop-k.invariant.1,
     )

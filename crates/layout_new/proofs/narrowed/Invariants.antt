@@ -1,5 +1,5 @@
 -- `layout_new::narrowed` meets its contract. The loop's invariant: the numbers passed stand narrowed, +0 after them. Assumes nothing.
-use Prim.Native.Nat.{◌+◌, ◌-◌, ◌*◌, ◌≤◌}
+use Prim.Native.Nat.{◌-◌, ◌*◌, ◌≤◌}
 use mathlib.Core.Path.{◌≡◌}
 use mathlib.Core.List.{map}
 use lib.ListN.{take}

@@ -1,4 +1,4 @@
-use Prim.Native.Nat.{◌-◌, zero-le}
+use Prim.Native.Nat.{zero-le}
 use mathlib.Core.Path.{◌≡◌, refl, ap, ◌∙◌}
 use mathlib.Core.List.{List}
 use lib.ListN.{get_or}
@@ -15,8 +15,7 @@ loop-j-init c =
 
 pub loop-j-preserved : goal.loop-j-preserved
 loop-j-preserved c =
-    let a = c.args in
-    (
+    let a = c.args in (
       omega arith,
       c.add_at.auto.row ∙ c.loop-j.invariant.1,
       c.add_at.ensures ∙ ap (λ (r : List Float). add_at r (get_or a.slots.now c.loop-j.j 0) a.w) c.loop-j.invariant.2 ∙ each_more a.w a.out.now a.slots.now c.loop-j.j (omega arith),
