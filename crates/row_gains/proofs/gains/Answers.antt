@@ -13,7 +13,8 @@ pub returns-then-counts_over : goal.returns-then-counts_over
 unfolding counts_over
 returns-then-counts_over c =
     let a = c.args in
-    counted_out a.panner a.az a.el a.out.now (sym c.counts_over.ensures ∙ c.if-counts_over.true)
+    let r = counted_out a.panner a.az a.el a.out.now (sym c.counts_over.ensures ∙ c.if-counts_over.true) in
+    record { value = r.0; out_after = r.1 }
 
 pub slice_bounds-zero-end-in-Silent : goal.slice_bounds-zero-end-in-Silent
 slice_bounds-zero-end-in-Silent c =
@@ -51,22 +52,28 @@ pub returns-in-Silent : goal.returns-in-Silent
 unfolding counts_over
 returns-in-Silent c =
     let a = c.args in
+    let r =
     finished a.panner a.az a.el a.out.now _ c.lesser-n.ensures (sym c.counts_over.ensures ∙ c.if-counts_over.false) _ _ _ refl refl (row_silent a.panner _ _ _ c.in-Silent.is) _ _ _
-    (out_silent a.panner c.in-Silent.is) (record { answer = refl; places = c.zero.ensures })
+    (out_silent a.panner c.in-Silent.is) (record { answer = refl; places = c.zero.ensures }) in
+    record { value = r.0; out_after = r.1 }
 
 pub returns-in-Mono : goal.returns-in-Mono
 unfolding counts_over
 returns-in-Mono c =
     let a = c.args in
+    let r =
     finished a.panner a.az a.el a.out.now _ c.lesser-n.ensures (sym c.counts_over.ensures ∙ c.if-counts_over.false) _ _ _ refl refl (row_mono a.panner _ _ _ c.in-Mono.is) _ _ _
-    (out_mono a.panner c.in-Mono.is) c.mono.ensures
+    (out_mono a.panner c.in-Mono.is) c.mono.ensures in
+    record { value = r.0; out_after = r.1 }
 
 pub returns-in-Planar : goal.returns-in-Planar
 unfolding counts_over
 returns-in-Planar c =
     let a = c.args in
+    let r =
     finished a.panner a.az a.el a.out.now _ c.lesser-n.ensures (sym c.counts_over.ensures ∙ c.if-counts_over.false) _ _ _ c.finite_or_0.ensures c.finite_or_0-in-Planar.ensures (row_planar a.panner _ _ _ c.in-Planar.is) _ _ _
-    (out_planar a.panner c.in-Planar.is) c.planar.ensures
+    (out_planar a.panner c.in-Planar.is) c.planar.ensures in
+    record { value = r.0; out_after = r.1 }
 
 pub returns-in-Hull : goal.returns-in-Hull
 unfolding counts_over
@@ -76,5 +83,7 @@ returns-in-Hull c =
     let w = (sym c.counts_over.ensures ∙ c.if-counts_over.false) in
     let long : length v.idx ≡ 240 = c.hull.ensures.long in
     let h : v.num_tris * 3 ≤ length v.idx = omega (arith, (within v w).tris) in
+    let r =
     finished v a.az a.el a.out.now _ c.lesser-n.ensures w _ _ _ c.finite_or_0-in-Hull.ensures c.finite_or_0-in-Hull-2.ensures (row_hull v _ _ _ c.in-Hull.is) _ _ _
-    (out_hull v c.in-Hull.is h) c.hull.ensures.checked
+    (out_hull v c.in-Hull.is h) c.hull.ensures.checked in
+    record { value = r.0; out_after = r.1 }
