@@ -16,7 +16,10 @@ passed c = admitted _ _ _ _ (sym c.refusal-why.ensures ∙ c.if-why-ne0.false)
 pub returns-then-why-ne0 : goal.returns-then-why-ne0
 returns-then-why-ne0 c =
     let s = c.args in
-    (refused_as _ _ c.refusal-why.ensures c.if-why-ne0.true, buffer_refused s.s s.block s.samples.now s.outputs.now c.refusal-why.ensures c.if-why-ne0.true)
+    record {
+      value = refused_as _ _ c.refusal-why.ensures c.if-why-ne0.true;
+      outputs_after = buffer_refused s.s s.block s.samples.now s.outputs.now c.refusal-why.ensures c.if-why-ne0.true;
+    }
 
 pub new_starts-to-requires : goal.new_starts-to-requires
 new_starts-to-requires c = ((passed (goal.at.new_starts-to-requires c).Else-why-ne0).formed, refl)
@@ -29,9 +32,10 @@ mix-requires c =
 pub returns : goal.returns
 returns c =
     let s = c.args in
-    (
-      render_done s.s s.block s.samples.now s.outputs.now c.refusal-why.ensures c.if-why-ne0.false c.new_starts-to.ensures.made c.with_starts.ensures,
-      c.mix.ensures
+    record {
+      value = render_done s.s s.block s.samples.now s.outputs.now c.refusal-why.ensures c.if-why-ne0.false c.new_starts-to.ensures.made c.with_starts.ensures;
+      outputs_after =
+          c.mix.ensures
           ∙ mix_same s.s s.block s.samples.now c.new_starts-to.result (outputs_low s.s (passed (goal.at.returns c).Else-why-ne0).formed) c.new_starts-to.ensures.gains s.outputs.now
-          ∙ buffer_done s.s s.block s.samples.now s.outputs.now c.refusal-why.ensures c.if-why-ne0.false,
-    )
+          ∙ buffer_done s.s s.block s.samples.now s.outputs.now c.refusal-why.ensures c.if-why-ne0.false;
+    }
