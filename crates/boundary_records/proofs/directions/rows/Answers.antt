@@ -19,14 +19,13 @@ returns-then-out-from c =
 pub loop-i-preserved : goal.loop-i-preserved
 loop-i-preserved c =
     let s = c.args in
-    let w = s.width in
-    (
+    let w = s.width in (
       omega arith,
       omega arith,
       omega arith,
       omega arith,
-      same_len_mid c.loop-i.from (c.loop-i.from + w - c.loop-i.from) c.loop-i.out c.gains.new.out c.gains.auto.1.1.1.0 ∙ c.loop-i.invariant.4,
-      rows_more s.p s.az.now s.el.now w c.loop-i.out c.loop-i.from c.loop-i.i (omega arith) (omega arith) c.gains.new.out (omega arith) c.gains.ensures.out_after c.gains.auto.1.1.1.0 ∙ c.loop-i.invariant.5,
+      same_len_mid c.loop-i.from (c.loop-i.from + w - c.loop-i.from) c.loop-i.out c.gains.new.out c.gains.auto.out ∙ c.loop-i.invariant.4,
+      rows_more s.p s.az.now s.el.now w c.loop-i.out c.loop-i.from c.loop-i.i (omega arith) (omega arith) c.gains.new.out (omega arith) c.gains.ensures.out_after c.gains.auto.out ∙ c.loop-i.invariant.5,
       c.loop-i.invariant.6,
     )
 

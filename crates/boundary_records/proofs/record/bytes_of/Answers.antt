@@ -14,14 +14,13 @@ unfolding flat_map
 loop-i-init c = (omega arith, omega arith, refl, c.well_formed.0.1.0.1, gathered_none pair_byte_places 0)
 
 pub loop-i-preserved : goal.loop-i-preserved
-loop-i-preserved c =
-    (
-      omega arith,
-      omega arith,
-      simp length-set (omega arith),
-      c.loop-i.invariant.3,
-      bytes_more c.args.ps c.loop-i.to c.loop-i.i _ _ (omega arith) (omega arith) c.law_number.ensures c.loop-i.invariant.4,
-    )
+loop-i-preserved c = (
+  omega arith,
+  omega arith,
+  simp length-set (omega arith),
+  c.loop-i.invariant.3,
+  bytes_more c.args.ps c.loop-i.to c.loop-i.i _ _ (omega arith) (omega arith) c.law_number.ensures c.loop-i.invariant.4,
+)
 
 pub returns : goal.returns
 unfolding pair_bytes

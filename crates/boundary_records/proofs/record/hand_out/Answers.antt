@@ -6,5 +6,5 @@ pub returns : goal.returns
 returns c =
     let a = c.args in
     let b = out_bytes a.p a.bytes.now c.head_of-head.ensures c.bytes_of-pair_bytes.ensures c.put_planar.ensures.long c.put_hull.ensures.long c.put_planar.ensures.to_after c.put_hull.ensures.to_after in
-    let o = out_floats a.p a.floats.now c.Numbers-of.ensures c.put_floats.ensures.long c.put_floats.ensures.to_after in
-    (b.0, (o.0, (b.1, o.1)))
+    let o = out_floats a.p a.floats.now c.numbers_of-pair_numbers.ensures c.put_floats.ensures.long c.put_floats.ensures.to_after in
+    record { bytes = b.0; floats = o.0; long = (b.1, o.1) }

@@ -16,14 +16,13 @@ unfolding flat_map of_bits
 loop-i-init c = (omega arith, omega arith, refl, c.well_formed.0.1.0.1, gathered_none pair_float_places +0)
 
 pub loop-i-preserved : goal.loop-i-preserved
-loop-i-preserved c =
-    (
-      omega arith,
-      omega arith,
-      simp length-set (omega arith),
-      c.loop-i.invariant.3,
-      numbers_more c.args.ps c.loop-i.to c.loop-i.i _ _ (omega arith) (omega arith) c.law_numbers-v.ensures c.loop-i.invariant.4,
-    )
+loop-i-preserved c = (
+  omega arith,
+  omega arith,
+  simp length-set (omega arith),
+  c.loop-i.invariant.3,
+  numbers_more c.args.ps c.loop-i.to c.loop-i.i _ _ (omega arith) (omega arith) c.law_numbers-v.ensures c.loop-i.invariant.4,
+)
 
 pub returns : goal.returns
 unfolding pair_numbers

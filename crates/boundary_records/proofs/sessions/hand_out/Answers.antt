@@ -8,4 +8,4 @@ use Rattle.boundary_records.proofs.sessions.hand_out.Goals as goal
 pub returns : goal.returns
 unfolding session_bytes session_floats
 returns c =
-    let a = c.args in record { bytes = whole_of (record_bytes a.s.panner) (own_bytes a.s) a.bytes.now record_byte_places c.hand_out.ensures.floats.1.0 c.hand_out.ensures.bytes c.hand_out_own.ensures.bytes; floats = whole_of (record_floats a.s.panner) (own_floats a.s) a.floats.now record_float_places c.hand_out.ensures.floats.1.1 c.hand_out.ensures.floats.0 c.hand_out_own.ensures.floats }
+    let a = c.args in record { bytes = whole_of (record_bytes a.s.panner) (own_bytes a.s) a.bytes.now record_byte_places c.hand_out.ensures.long.0 c.hand_out.ensures.bytes c.hand_out_own.ensures.bytes; floats = whole_of (record_floats a.s.panner) (own_floats a.s) a.floats.now record_float_places c.hand_out.ensures.long.1 c.hand_out.ensures.floats c.hand_out_own.ensures.floats }

@@ -6,9 +6,9 @@ use Rattle.boundary_records.proofs.sessions.leave.Goals as goal
 
 pub returns-then-a-ne0 : goal.returns-then-a-ne0
 unfolding bytes_left floats_left
-returns-then-a-ne0 c = rw (ne_eqb _ _ c.if-a-ne0.true) (refl, (refl, refl))
+returns-then-a-ne0 c = rw (ne_eqb _ _ c.if-a-ne0.true) (record { number = refl; bytes = refl; floats = refl })
 
 pub returns : goal.returns
 unfolding bytes_left floats_left
 returns c =
-    rw (eq-eqb _ _ c.if-a-ne0.false) (sym c.if-a-ne0.false, (c.hand_out_own.ensures.bytes, c.hand_out_own.ensures.floats))
+    rw (eq-eqb _ _ c.if-a-ne0.false) (record { number = sym c.if-a-ne0.false; bytes = c.hand_out_own.ensures.bytes; floats = c.hand_out_own.ensures.floats })
