@@ -1,4 +1,4 @@
-use Prim.Native.Nat.{◌<◌, ◌-◌, zero-le}
+use Prim.Native.Nat.{◌<◌, zero-le}
 use mathlib.Core.Path.{◌≡◌, refl, ap, ◌∙◌}
 use lib.ListN.{length, length-set, replicate}
 use lib.Ieee.{binary32, of_bits}

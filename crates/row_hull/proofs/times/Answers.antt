@@ -1,4 +1,4 @@
-use Prim.Native.Nat.{◌<◌, ◌-◌, zero-le}
+use Prim.Native.Nat.{◌<◌, zero-le}
 use mathlib.Core.Path.{refl, ◌∙◌}
 use lib.ListN.{length, length-set}
 use Rattle.row_hull.proofs.Places.{times_none, times_done, times_at, times_more}

@@ -1,5 +1,5 @@
 -- `session_standing::keep_last` meets its contract. The loop's invariant: the stores left from here give what all of them give. Assumes nothing.
-use Prim.Native.Nat.{◌+◌, ◌-◌, ◌*◌, ◌≤◌}
+use Prim.Native.Nat.{◌-◌, ◌*◌, ◌≤◌}
 use mathlib.Core.Path.{◌≡◌}
 use lib.ListN.{replicate}
 use lib.Seq.{sets}
