@@ -10,8 +10,7 @@ ghost use Rattle.boundary_records.specs.Sessions.{written};
 use boundary_records::record::{RecordBytes, RecordFloats, hand_out, taken_in};
 
 // `layout_new::new`: its number, and where it is 0 the imaginary count and the record. No float of such a record is a NaN.
-#[unsafe(no_mangle)]
-pub extern "C" fn panner_new(
+pub fn panner_new(
     positions: &[f32],
     lfe: &[usize],
     imaginary: &mut usize,
@@ -35,12 +34,7 @@ pub extern "C" fn panner_new(
 }
 
 // `layout_record::num_outputs`: 0 and the count of outputs, or 11 and the count stays as it was.
-#[unsafe(no_mangle)]
-pub extern "C" fn panner_num_outputs(
-    bytes: &RecordBytes,
-    floats: &RecordFloats,
-    count: &mut usize,
-) -> u32
+pub fn panner_num_outputs(bytes: &RecordBytes, floats: &RecordFloats, count: &mut usize) -> u32
     ensures number { result ≡ (num_outputs_of (record_from bytes.now floats.now)).number }
     ensures count { count.new ≡ written result (num_outputs_of (record_from bytes.now floats.now)).count count.old }
 {
@@ -56,8 +50,7 @@ pub extern "C" fn panner_num_outputs(
 
 // `row_gains::gains`. A NaN in a row of a record made by hand is computed: its sign and payload are the program's choice, and each is a quiet NaN.
 // Slots from the outputs on, and all beside 11, keep their bits.
-#[unsafe(no_mangle)]
-pub extern "C" fn panner_gains(
+pub fn panner_gains(
     bytes: &RecordBytes,
     floats: &RecordFloats,
     az: f32,
@@ -72,8 +65,7 @@ pub extern "C" fn panner_gains(
 }
 
 // A row for each direction, `width` places each; the record is read once. Of NaNs as `panner_gains`.
-#[unsafe(no_mangle)]
-pub extern "C" fn panner_gains_all(
+pub fn panner_gains_all(
     bytes: &RecordBytes,
     floats: &RecordFloats,
     az: &[f32],

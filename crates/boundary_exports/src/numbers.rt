@@ -8,30 +8,26 @@ ghost use Rattle.float_sine.specs.Sine.{sin_of, cos_of};
 ghost use Rattle.float_arctangent.specs.Arctangent.{atan2_of};
 ghost use Rattle.boundary_arrays.specs.Arrays.{at, Filled};
 
-#[unsafe(no_mangle)]
-pub extern "C" fn panner_narrow_all(src: &[f64], dst: &mut [f32])
+pub fn panner_narrow_all(src: &[f64], dst: &mut [f32])
     ensures { Filled (min (length src.now) (length dst.old)) (λ i. narrow_of (at src.now i)) dst.old dst.new }
 {
     boundary_arrays::narrow_all(src, dst)
 }
 
-#[unsafe(no_mangle)]
-pub extern "C" fn panner_sqrt32_all(src: &[f32], dst: &mut [f32])
+pub fn panner_sqrt32_all(src: &[f32], dst: &mut [f32])
     ensures { Filled (min (length src.now) (length dst.old)) (λ i. sqrt_of binary32 (at src.now i)) dst.old dst.new }
 {
     boundary_arrays::sqrt32_all(src, dst)
 }
 
-#[unsafe(no_mangle)]
-pub extern "C" fn panner_sqrt64_all(src: &[f64], dst: &mut [f64])
+pub fn panner_sqrt64_all(src: &[f64], dst: &mut [f64])
     ensures { Filled (min (length src.now) (length dst.old)) (λ i. sqrt_of binary64 (at src.now i)) dst.old dst.new }
 {
     boundary_arrays::sqrt64_all(src, dst)
 }
 
 // Sine and cosine of each value.
-#[unsafe(no_mangle)]
-pub extern "C" fn panner_sin_cos_all(src: &[f64], sin: &mut [f64], cos: &mut [f64])
+pub fn panner_sin_cos_all(src: &[f64], sin: &mut [f64], cos: &mut [f64])
     ensures filled { Filled (min (length src.now) (min (length sin.old) (length cos.old))) (λ i. sin_of (at src.now i)) sin.old sin.new }
     ensures filled_2 { Filled (min (length src.now) (min (length sin.old) (length cos.old))) (λ i. cos_of (at src.now i)) cos.old cos.new }
 {
@@ -39,8 +35,7 @@ pub extern "C" fn panner_sin_cos_all(src: &[f64], sin: &mut [f64], cos: &mut [f6
 }
 
 // The angle of each point, y before x.
-#[unsafe(no_mangle)]
-pub extern "C" fn panner_atan2_all(y: &[f64], x: &[f64], dst: &mut [f64])
+pub fn panner_atan2_all(y: &[f64], x: &[f64], dst: &mut [f64])
     ensures { Filled (min (length y.now) (min (length x.now) (length dst.old))) (λ i. atan2_of (at y.now i) (at x.now i)) dst.old dst.new }
 {
     boundary_arrays::atan2_all(y, x, dst)

@@ -5,16 +5,14 @@ ghost use Rattle.mix_gain.specs.Mixed.{normalized_lerp_gain_of};
 ghost use Rattle.mix_ramp.specs.Ramp.{ramp_add_of};
 ghost use Rattle.boundary_arrays.specs.Arrays.{at, Filled};
 
-#[unsafe(no_mangle)]
-pub extern "C" fn panner_normalized_lerp_gain(from: f32, to: f32, dot: f32, t: f32) -> f32
+pub fn panner_normalized_lerp_gain(from: f32, to: f32, dot: f32, t: f32) -> f32
     ensures { result ≡ normalized_lerp_gain_of from to dot t }
 {
     mix_gain::normalized_lerp_gain(from, to, dot, t)
 }
 
 // The gain of each four numbers.
-#[unsafe(no_mangle)]
-pub extern "C" fn panner_normalized_lerp_gain_all(
+pub fn panner_normalized_lerp_gain_all(
     from: &[f32],
     to: &[f32],
     dot: &[f32],
@@ -26,8 +24,7 @@ pub extern "C" fn panner_normalized_lerp_gain_all(
     boundary_arrays::normalized_lerp_gain_all(from, to, dot, t, dst)
 }
 
-#[unsafe(no_mangle)]
-pub extern "C" fn panner_ramp_add(dst: &mut [f32], src: &[f32], g0: f32, g1: f32)
+pub fn panner_ramp_add(dst: &mut [f32], src: &[f32], g0: f32, g1: f32)
     ensures { dst.new ≡ ramp_add_of dst.old src.now g0 g1 }
 {
     mix_ramp::ramp_add(dst, src, g0, g1)

@@ -9,8 +9,7 @@ ghost use Rattle.boundary_records.specs.Sessions.{session_bytes, session_floats,
 use boundary_records::sessions::{SessionBytes, SessionFloats, hand_out, leave, taken_in};
 
 // `session_open::open`: its number, and where it is 0 the imaginary count and the session. No float of such a session is a NaN.
-#[unsafe(no_mangle)]
-pub extern "C" fn panner_open(
+pub fn panner_open(
     positions: &[f32],
     lfe: &[usize],
     sources: usize,
@@ -35,8 +34,7 @@ pub extern "C" fn panner_open(
 }
 
 // `session_calls::place`. Every float travels, and an angle that is not finite is written as +0.
-#[unsafe(no_mangle)]
-pub extern "C" fn panner_place(
+pub fn panner_place(
     bytes: &mut SessionBytes,
     floats: &mut SessionFloats,
     source: usize,
@@ -53,12 +51,7 @@ pub extern "C" fn panner_place(
 }
 
 // `session_calls::take_back`. Every float travels.
-#[unsafe(no_mangle)]
-pub extern "C" fn panner_take_back(
-    bytes: &mut SessionBytes,
-    floats: &mut SessionFloats,
-    source: usize,
-) -> u32
+pub fn panner_take_back(bytes: &mut SessionBytes, floats: &mut SessionFloats, source: usize) -> u32
     ensures number { result ≡ (answer_of (session_from bytes.old floats.old) (take_back source)).number }
     ensures bytes { bytes.new ≡ bytes_left bytes.old (answer_of (session_from bytes.old floats.old) (take_back source)) }
     ensures floats { floats.new ≡ floats_left floats.old (answer_of (session_from bytes.old floats.old) (take_back source)) }
@@ -69,12 +62,7 @@ pub extern "C" fn panner_take_back(
 }
 
 // `session_calls::settle`. Every float travels, the moved direction of a session made by hand too: it keeps its bits.
-#[unsafe(no_mangle)]
-pub extern "C" fn panner_settle(
-    bytes: &mut SessionBytes,
-    floats: &mut SessionFloats,
-    source: usize,
-) -> u32
+pub fn panner_settle(bytes: &mut SessionBytes, floats: &mut SessionFloats, source: usize) -> u32
     ensures number { result ≡ (answer_of (session_from bytes.old floats.old) (settle source)).number }
     ensures bytes { bytes.new ≡ bytes_left bytes.old (answer_of (session_from bytes.old floats.old) (settle source)) }
     ensures floats { floats.new ≡ floats_left floats.old (answer_of (session_from bytes.old floats.old) (settle source)) }
@@ -86,8 +74,7 @@ pub extern "C" fn panner_settle(
 
 // `session_render::render`. A NaN among the outputs, and in the start rows of a session whose layout was made by hand, is computed: its sign and
 // payload are the program's choice, and each is a quiet NaN. The other places of the session keep their bits, and all places beside a refusal.
-#[unsafe(no_mangle)]
-pub extern "C" fn panner_render(
+pub fn panner_render(
     bytes: &mut SessionBytes,
     floats: &mut SessionFloats,
     block: usize,
@@ -105,8 +92,7 @@ pub extern "C" fn panner_render(
 }
 
 // For each direction a place and a take back, up to the first that is refused, on a session that is read once; where one is refused, nothing is written.
-#[unsafe(no_mangle)]
-pub extern "C" fn panner_place_take_back_all(
+pub fn panner_place_take_back_all(
     bytes: &mut SessionBytes,
     floats: &mut SessionFloats,
     source: usize,

@@ -3,4 +3,4 @@ use Rattle.boundary_exports.proofs.layouts.panner_gains.Goals as goal
 
 pub returns : goal.returns
 returns c =
-    rw (← c.taken_in-p.ensures) (c.gains.ensures.value, c.gains.ensures.out_after)
+    rw (← c.taken_in-p.ensures) (record { number = c.gains.ensures.value; buffer = c.gains.ensures.out_after })

@@ -3,4 +3,4 @@ use mathlib.Core.Path.{refl}
 use Rattle.boundary_exports.proofs.layouts.panner_gains_all.Goals as goal
 
 pub returns : goal.returns
-returns c = rw (← c.taken_in-p.ensures, ← c.num_outputs-r.ensures) (refl, c.rows.ensures)
+returns c = rw (← c.taken_in-p.ensures, ← c.num_outputs-r.ensures) (record { number = refl; buffer = c.rows.ensures })

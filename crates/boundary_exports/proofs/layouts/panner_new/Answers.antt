@@ -7,18 +7,14 @@ use Rattle.boundary_records.proofs.Laid.{laid_all}
 use Rattle.boundary_exports.proofs.layouts.panner_new.Goals as goal
 
 pub returns-then-why-ne0 : goal.returns-then-why-ne0
-returns-then-why-ne0 c = rw (← c.new-made.ensures, ne_eqb _ _ c.if-why-ne0.true) (refl, (refl, (refl, refl)))
+returns-then-why-ne0 c = rw (← c.new-made.ensures, ne_eqb _ _ c.if-why-ne0.true) (record { number = refl; imaginary = refl; bytes = refl; floats = refl })
 
 pub returns : goal.returns
 returns c =
     let a = c.args in
-    rw (← c.new-made.ensures) (
-      sym c.if-why-ne0.false,
-      (
-        refl,
-        (
-          laid_all (record_bytes c.new-made.result.panner) a.bytes.now record_byte_places c.hand_out-arg-1.given.0.1 c.hand_out.ensures.bytes,
-          laid_all (record_floats c.new-made.result.panner) a.floats.now record_float_places c.hand_out-arg-2-1.given.0.1 c.hand_out.ensures.floats.0,
-        ),
-      ),
-    )
+    rw (← c.new-made.ensures) (record {
+      number = sym c.if-why-ne0.false;
+      imaginary = refl;
+      bytes = laid_all (record_bytes c.new-made.result.panner) a.bytes.now record_byte_places (omega arith) c.hand_out.ensures.bytes;
+      floats = laid_all (record_floats c.new-made.result.panner) a.floats.now record_float_places (omega arith) c.hand_out.ensures.floats;
+    })

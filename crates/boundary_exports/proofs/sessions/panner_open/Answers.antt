@@ -10,16 +10,20 @@ pub returns-then-why-ne0 : goal.returns-then-why-ne0
 returns-then-why-ne0 c =
     let given = c.args in
     let made : c.open-opened.result ≡ open_of given.positions.now given.lfe.now given.sources = c.open-opened.ensures in
-    (ap (λ (o : Opened). o.number) made, (kept _ _ _ c.if-why-ne0.true, (kept _ _ _ c.if-why-ne0.true, kept _ _ _ c.if-why-ne0.true)))
+    record {
+      number = ap (λ (o : Opened). o.number) made;
+      imaginary = kept _ _ _ c.if-why-ne0.true;
+      bytes = kept _ _ _ c.if-why-ne0.true;
+      floats = kept _ _ _ c.if-why-ne0.true;
+    }
 
 pub returns : goal.returns
 returns c =
     let given = c.args in
     let made : c.open-opened.result ≡ open_of given.positions.now given.lfe.now given.sources = c.open-opened.ensures in
-    (
-      sym c.if-why-ne0.false ∙ ap (λ (o : Opened). o.number) made,
-      (
-        ap (λ (o : Opened). o.imaginary) made,
-        (c.hand_out.ensures.bytes ∙ ap (λ (o : Opened). session_bytes o.session) made, c.hand_out.ensures.floats ∙ ap (λ (o : Opened). session_floats o.session) made),
-      ),
-    )
+    record {
+      number = sym c.if-why-ne0.false ∙ ap (λ (o : Opened). o.number) made;
+      imaginary = ap (λ (o : Opened). o.imaginary) made;
+      bytes = c.hand_out.ensures.bytes ∙ ap (λ (o : Opened). session_bytes o.session) made;
+      floats = c.hand_out.ensures.floats ∙ ap (λ (o : Opened). session_floats o.session) made;
+    }

@@ -7,4 +7,5 @@ use Rattle.boundary_exports.proofs.sessions.panner_place_take_back_all.Goals as 
 pub returns : goal.returns
 returns c =
     let given = c.args in
-    left given.bytes.now given.floats.now (λ (s : Session). place_take_back s given.source given.az.now given.el.now) c.taken_in-s.ensures c.place_take_back-r.ensures c.leave.ensures.number c.leave.ensures.bytes.0 c.leave.ensures.bytes.1
+    let k = left given.bytes.now given.floats.now (λ (s : Session). place_take_back s given.source given.az.now given.el.now) c.taken_in-s.ensures c.place_take_back-r.ensures c.leave.ensures.number c.leave.ensures.bytes c.leave.ensures.floats in
+    record { number = k.0; bytes = k.1.0; floats = k.1.1 }
