@@ -1,4 +1,4 @@
-//! Links the static library that `rt staticlib boundary_exports` wrote.
+//! Links the static library that `rt lib` made of crate `boundary_exports_c`, where `driver/run` and `bench/run` put it.
 
 fn main() {
     let root = std::path::Path::new(env!("CARGO_MANIFEST_DIR")).join("..");

@@ -1,5 +1,6 @@
-//! The functions of crate `boundary_exports`: those of `include/panner.h`, and the number work of whole
-//! arrays. A slice crosses as its pointer and its length; a record and a session as two arrays.
+//! The functions of crate `boundary_exports`, as crate `boundary_exports_c` exports them: those of
+//! `include/panner.h`, and the number work of whole arrays. A slice crosses as its pointer and its
+//! length; a record and a session as two arrays.
 
 /// Places of a record and of a session. Origin: `include/panner.h`.
 pub const RECORD_BYTES: usize = 1022;
