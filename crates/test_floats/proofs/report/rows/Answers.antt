@@ -1,5 +1,5 @@
 -- `test_floats::rows` is safe and ends: each name ends within the list. Assumes nothing.
-use Rattle.std.proofs.Common.{◌-◌, arith}
+use Rattle.std.proofs.Common.{arith}
 use Rattle.test_lines.proofs.Walk.{span_within}
 use Rattle.test_floats.proofs.report.rows.Goals as goal
 
