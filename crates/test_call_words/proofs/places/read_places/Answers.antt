@@ -1,5 +1,4 @@
 use mathlib.Core.Path.{refl}
-use Prim.Native.Nat.{◌-◌}
 use Rattle.test_call_words.proofs.places.read_places.Goals as goal
 
 pub loop-i-init : goal.loop-i-init
