@@ -17,7 +17,7 @@ use Rattle.mix_block.specs.Limits.{most_sources}
 use Rattle.session_open.specs.Open.{open_refusal, open_of}
 use Rattle.theorem_take_back.specs.Demand3.{Given, Comparable}
 use Rattle.theorem_cases.specs.Table.{F}
-use Rattle.theorem_cases.specs.Farther.{far_f, OneLayout, Farther}
+use Rattle.theorem_cases.specs.Farther.{far_f, Farther}
 use Rattle.theorem_cases.proofs.Shown.{at, F-level, two_active}
 
 -- ---- two lists of as many positions, with the same active speakers

@@ -2,7 +2,7 @@
 use Rattle.std.proofs.Common.{◌≡◌, ℕ, ◌+◌, ◌-◌, ◌<◌, ◌≤◌, Bool, true, false, cond, T, eqb, List, [], ◌∷◌, map, length, get_or, sym, refl, ap, ◌∙◌, subst, true≢false, arith, lit<, lit≤, length-append, ne_eqb}
 use mathlib.Core.List.{flat_map}
 use lib.ListN.{length-map}
-use lib.Ieee.{Float, nan, inf, fin, binary32, binary64, fits, is_nan, le, lt, eq}
+use lib.Ieee.{Float, nan, inf, fin, binary64, fits, is_nan, le, lt, eq}
 use Rattle.lists.specs.Lists.{range, between, every, member, filled, Each, Once}
 use Rattle.lists.proofs.Ranges.{length_between}
 use Rattle.float_order.specs.Values.{+0, 1·0, abs}

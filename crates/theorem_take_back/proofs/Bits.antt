@@ -1,12 +1,12 @@
 -- Every float that a history holds is finite and of 32 bits: an angle once it counts as +0 where it is not finite, and a gain of an accepted layout. So is every float of the session, and what has the same bits is the same. Assumes nothing.
-use Prim.Native.Nat.{ℕ, ◌-◌, ◌*◌, ◌≤◌}
+use Prim.Native.Nat.{ℕ, ◌-◌, ◌*◌}
 use mathlib.Core.Path.{◌≡◌, refl, sym, ap, ◌∙◌}
 use mathlib.Core.Bool.{Bool, true, false, cond}
 use mathlib.Core.List.{List, [], ◌∷◌, map, flat_map}
 use native.Mathlib.Omega.{arith}
 use lib.Dec.{T, eqb}
 use lib.ListN.{length, replicate}
-use lib.Ieee.{Float, nan, inf, fin, binary32, fits, is_nan, of_bits, to_bits}
+use lib.Ieee.{Float, nan, inf, fin, binary32, fits, is_nan, of_bits}
 use lib.Ieee.Bits.{of_bits-to_bits}
 use Rattle.lists.specs.Lists.{Each}
 use Rattle.float_order.specs.Values.{+0, is_finite}
@@ -24,7 +24,7 @@ use Rattle.session_history.specs.Calls.{Call, place, take_back, settle, render}
 use Rattle.session_history.specs.History.{Direction, Past, beginning, depth, refusal, only_last, last_row, rerowed, made, step, history, past}
 use Rattle.session_calls.specs.declared.Session.{Session}
 use Rattle.session_calls.specs.Session.{after_all}
-use Rattle.theorem_take_back.specs.Demand3.{Alike, Given, opened, history_of, past_of, Comparable}
+use Rattle.theorem_take_back.specs.Demand3.{Alike, Given, opened, history_of, past_of}
 use Rattle.theorem_take_back.specs.Laid.{numbers_of, numbers_in, places_of, start_of, laid_at}
 use Rattle.theorem_take_back.specs.Bits.{Fits32, CallFits, NeverNan, bits, pair_bits, direction_bits, SamePanner, SameBits, AlikeBits, Demand3Bits}
 use Rattle.theorem_take_back.proofs.Fields.{same_session}

@@ -25,7 +25,7 @@ use Rattle.session_calls.specs.declared.Session.{Session}
 use Rattle.session_calls.specs.Session.{stood, start_row}
 use Rattle.theorem_take_back.specs.Demand3.{Alike}
 use Rattle.theorem_take_back.specs.Laid.{places_of, start_of, laid_at}
-use Rattle.theorem_take_back.proofs.Fields.{SameRest, stood_same}
+use Rattle.theorem_take_back.proofs.Fields.{stood_same}
 use Rattle.lists.proofs.Rows.{Wide, get_d_filled_any, sets_filled, filled_replicate, rows_in_part, rows_in_get_d, rows_in_rest, rows_in_sets, rows_in_replicate, map_set}
 use Rattle.theorem_take_back.proofs.Places.{but_last_length, places, places_length, places_none, places_push, places_pop, places_at, places_same, places_settle, start_same}
 

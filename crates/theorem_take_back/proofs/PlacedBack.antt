@@ -1,12 +1,10 @@
 -- A direction placed and taken back: the count comes back, and +0 into the two places that held it. Assumes nothing.
 use Prim.Native.Nat.{ℕ, suc, ◌+◌, ◌-◌, ◌*◌, ◌<◌}
 use mathlib.Core.Path.{◌≡◌, refl, ap, ◌∙◌}
-use mathlib.Core.Bool.{false}
-use mathlib.Core.List.{List, [], ◌∷◌, foldl}
+use mathlib.Core.List.{[], ◌∷◌}
 use native.Mathlib.Omega.{arith}
 use borrow.Author.Tests.{ne_eqb}
-use lib.Dec.{eqb}
-use lib.ListN.{length, get_or, set}
+use lib.ListN.{length, get_or}
 use lib.Seq.{sets, get_or-set_same, set-set, set-get_or}
 use lib.Ieee.{Float}
 use Rattle.float_order.specs.Values.{+0}
@@ -14,11 +12,11 @@ use Rattle.row_gains.specs.Gains.{finite_or0}
 use Rattle.session_history.specs.Calls.{place, take_back}
 use Rattle.session_history.specs.History.{depth}
 use Rattle.session_calls.specs.declared.Session.{Session}
-use Rattle.session_calls.specs.Session.{malformed_session, standing_count, number_of, at, stood, restood, placed, taken_back, accepted, after, after_all}
+use Rattle.session_calls.specs.Session.{standing_count, number_of, at, stood, restood, placed, taken_back, accepted, after, after_all}
 use Rattle.session_calls.proofs.Refusals.{Passed, place_passed, take_own}
 use Rattle.session_calls.proofs.Meaning.{calls_keep_formed}
 use Rattle.theorem_take_back.specs.Instances.{PlacedBack}
-use Rattle.theorem_take_back.proofs.Fields.{SameRest, stood_same}
+use Rattle.theorem_take_back.proofs.Fields.{stood_same}
 use Rattle.lists.proofs.Rows.{sets_back}
 
 module _ (s : Session) (i : ℕ) (az el : Float) (z : number_of s (place i az el) ≡ 0) (h : i < length s.counts) where

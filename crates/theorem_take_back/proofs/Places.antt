@@ -1,5 +1,5 @@
 -- The places of one source, at any depth: a direction more, the last one removed, one in place of all, and what is read; another row. Assumes nothing.
-use Prim.Native.Nat.{ℕ, zero, suc, ◌+◌, ◌-◌, ◌*◌, ◌≤◌, ◌<◌}
+use Prim.Native.Nat.{ℕ, suc, ◌+◌, ◌-◌, ◌*◌, ◌≤◌, ◌<◌}
 use mathlib.Core.Path.{◌≡◌, refl, sym, ap, ◌∙◌}
 use mathlib.Core.List.{List, [], ◌∷◌, ◌++◌, append_assoc, flat_map}
 use native.Mathlib.Nat.{add-zero, not-suc-le-zero}
@@ -13,8 +13,8 @@ use Rattle.lists.proofs.Collect.{flat_map_snoc}
 use Rattle.lists.proofs.Filled.{filled_none, length_filled, set_filled_at, take_filled}
 use Rattle.float_order.specs.Values.{+0}
 use Rattle.mix_block.specs.Limits.{row_places}
-use Rattle.session_history.specs.History.{Direction, Past}
-use Rattle.theorem_take_back.specs.Laid.{numbers_of, numbers_in, places_of, start_of}
+use Rattle.session_history.specs.History.{Direction}
+use Rattle.theorem_take_back.specs.Laid.{numbers_of, numbers_in}
 use Rattle.lists.proofs.Rows.{Wide, sets_all, sets_back, get_d_filled_any, rows_in_get_d}
 
 -- ---- the last direction removed

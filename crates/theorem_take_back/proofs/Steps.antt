@@ -5,8 +5,8 @@ use mathlib.Core.Bool.{Bool, true, false, cond}
 use mathlib.Core.List.{List, [], ◌∷◌, ◌++◌, map, flat_map}
 use native.Mathlib.Nat.{not-suc-le-zero}
 use native.Mathlib.Omega.{arith}
-use borrow.Author.Tests.{ltb-true, ltb-false, le-ltb, lt-ltb, leb-false, eqb-true, eqb-false, ne_eqb}
-use lib.Dec.{eqb, ltb, leb}
+use borrow.Author.Tests.{le-ltb, lt-ltb, leb-false, eqb-true, eqb-false}
+use lib.Dec.{eqb, leb}
 use lib.ListN.{length, get_or, set, replicate, length-replicate, length-map, get_or-map}
 use lib.Seq.{set-get_or}
 use lib.Ieee.{Float}
@@ -28,10 +28,10 @@ use Rattle.session_open.specs.Open.{fresh}
 use Rattle.session_calls.specs.Session.{malformed_session, standing_count, on_source, number_of, restood, placed, taken_back, settled, target_row, target, new_start, rendered, accepted, after}
 use Rattle.theorem_rows.proofs.Silent.{row_length}
 use Rattle.theorem_take_back.specs.Laid.{places_of, start_of, laid_at}
-use Rattle.theorem_take_back.proofs.Fields.{SameFields, same_session, starts_same}
+use Rattle.theorem_take_back.proofs.Fields.{same_session, starts_same}
 use Rattle.lists.proofs.Rows.{Wide, range_rows}
 use Rattle.theorem_take_back.proofs.Places.{start_store}
-use Rattle.theorem_take_back.proofs.Laying.{Setting, Good, count, only_last_none, nowhere, fresh_counts, fresh_standing, fresh_starts, counts_low, count_at, stand_at, few_at, even_at, stands_at, start_at, start_unused, pushed_laid, popped_laid, settled_laid}
+use Rattle.theorem_take_back.proofs.Laying.{Setting, Good, count, only_last_none, nowhere, fresh_counts, fresh_standing, fresh_starts, counts_low, count_at, stand_at, even_at, stands_at, start_at, start_unused, pushed_laid, popped_laid, settled_laid}
 
 -- ---- the row of the last direction
 
