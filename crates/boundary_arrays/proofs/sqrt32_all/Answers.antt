@@ -1,5 +1,4 @@
 use mathlib.Core.Path.{refl}
-use Prim.Native.Nat.{◌-◌}
 use lib.ListN.{length-set}
 use Rattle.boundary_arrays.proofs.Filling.{filled_none, filled_more, exactly}
 use native.Mathlib.Omega.{arith}
