@@ -1,6 +1,7 @@
 -- `boundary_exports::layouts::panner_new` meets its contract: a refusal writes nothing, and an accepted call the record that it answers. Assumes nothing.
 use mathlib.Core.Path.{refl, sym}
 use borrow.Author.Tests.{ne_eqb}
+use native.Mathlib.Omega.{arith}
 use Rattle.boundary_records.specs.Places.{record_byte_places, record_float_places}
 use Rattle.boundary_records.specs.Records.{record_bytes, record_floats}
 use Rattle.boundary_records.proofs.Laid.{laid_all}
