@@ -25,7 +25,7 @@ use Rattle.layout_record.specs.declared.Kind.{Kind}
 use Rattle.layout_record.specs.declared.Kind.TheVariants.{Silent, Mono, Planar, Hull}
 use Rattle.layout_record.specs.declared.VbapPanner.{VbapPanner}
 use Rattle.layout_hull.specs.Triplets.{Triplet}
-use Rattle.layout_record.specs.Shape.{HullShape, numbers, Shape, silent, mono, planar, hull, Layout, imaginary_in}
+use Rattle.layout_record.specs.Shape.{numbers, Shape, silent, mono, planar, hull, Layout, imaginary_in}
 use Rattle.layout_record.specs.Panner.{pairs_in, slots_in, hull_in, laid, no_panner}
 use Rattle.layout_record.specs.Meaning.{HullFits, ShapeFits}
 use Rattle.layout_new.specs.declared.NewPanner.{NewPanner}
@@ -36,8 +36,7 @@ use Rattle.boundary_records.specs.Places.{most_outputs, most_triplets, most_imag
 use Rattle.boundary_records.specs.Records.{kind_number, head_of, law_numbers, law_number, numbers_of, bytes_of, pair_numbers, pair_bytes, kind_from, law_from, pair_from, known, section, record_bytes, record_floats, record_from}
 use Rattle.boundary_records.specs.Sessions.{own_bytes, own_floats, session_bytes, session_floats, session_from, bytes_left, floats_left}
 use Rattle.session_calls.specs.declared.Session.{Session}
-use Rattle.session_calls.specs.declared.Answer.{Answer}
-use Rattle.boundary_records.specs.Meaning.{Whole, WholeSession, HandedBack, SessionHandedBack, LeftTakenIn, NewWhole}
+use Rattle.boundary_records.specs.Meaning.{Whole, HandedBack, SessionHandedBack, LeftTakenIn, NewWhole}
 use Rattle.boundary_records.proofs.Known.{kind_known, laws_known}
 use Rattle.boundary_records.proofs.Laid.{length_bytes, length_floats}
 use Rattle.boundary_records.proofs.Pasted.{length_two, section_front, section_last}

@@ -1,4 +1,3 @@
-use Prim.Native.Nat.{◌-◌}
 use Rattle.boundary_records.proofs.Pasted.{copied_none, copied_more, copied_all}
 use Rattle.boundary_records.proofs.copies.copy_bytes.Goals as goal
 

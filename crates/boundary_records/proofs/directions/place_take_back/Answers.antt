@@ -1,4 +1,3 @@
-use Prim.Native.Nat.{◌-◌}
 use mathlib.Core.Path.{refl, sym, ◌∙◌}
 use Rattle.boundary_records.proofs.Left.{place_refused, take_refused, both_accepted, none_left}
 use native.Mathlib.Omega.{arith}

@@ -1,5 +1,5 @@
 -- `boundary_records::directions::rows` meets its contract. The loop's invariant: the rows so far and those of the directions left are all rows. Assumes nothing.
-use Prim.Native.Nat.{◌+◌, ◌-◌, ◌≤◌, min}
+use Prim.Native.Nat.{◌-◌, ◌≤◌, min}
 use mathlib.Core.Path.{◌≡◌}
 use mathlib.Core.List.{◌++◌}
 use lib.ListN.{length, take, drop}

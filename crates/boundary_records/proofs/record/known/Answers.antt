@@ -1,4 +1,3 @@
-use Prim.Native.Nat.{◌-◌}
 use mathlib.Core.Path.{sym, ◌∙◌}
 use Rattle.boundary_records.proofs.Known.{laws_all, laws_none, kind_known, kind_unknown, law_unknown, law_known_lem}
 use native.Mathlib.Omega.{arith}

@@ -1,4 +1,4 @@
-use Prim.Native.Nat.{◌-◌, min}
+use Prim.Native.Nat.{min}
 use mathlib.Core.Path.{◌≡◌, refl}
 use mathlib.Core.List.{flat_map}
 use lib.Ieee.{of_bits}
