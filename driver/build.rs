@@ -1,4 +1,4 @@
-//! Links the static library that `rt lib` made of crate `boundary_exports_c`, where `driver/run` and `bench/run` put it.
+//! Links the static library that `scripts/staticlib` made of crate `boundary_exports_c`.
 
 fn main() {
     let root = std::path::Path::new(env!("CARGO_MANIFEST_DIR")).join("..");

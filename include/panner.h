@@ -1,4 +1,4 @@
-/* The panner as a static library (libboundary_exports.a, made of crate boundary_exports_c by `driver/run`). docs/EMBEDDING.md says how to link and call it.
+/* The panner as a static library (libboundary_exports.a, made of crate boundary_exports_c by `scripts/staticlib`). docs/EMBEDDING.md says how to link and call it.
  *
  * No call allocates, blocks, or keeps a pointer. The arrays of one call must not overlap. A pointer beside a count of 0 may be null.
  * Every call answers a number: 0, or the number of a refusal. Beside a refusal every lent place keeps its bits. */
