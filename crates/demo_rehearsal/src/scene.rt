@@ -55,11 +55,21 @@ fn refused_full(rt: &impl Print, fresh: Session) {
         s = r.session;
         i += 1;
     }
-    line(rt, b"(on a session whose source 0 has 16 standing directions)");
+    line(
+        rt,
+        b"(on a session whose source 0 has 16 standing directions)",
+    );
     place(rt, s, 0, 0.0, 0.0);
 }
 
-fn rendered(rt: &impl Print, call: &[u8], s: Session, block: usize, samples: &[f32], out: &mut [f32]) {
+fn rendered(
+    rt: &impl Print,
+    call: &[u8],
+    s: Session,
+    block: usize,
+    samples: &[f32],
+    out: &mut [f32],
+) {
     let r = session_render::render(s, block, samples, out);
     told(rt, call, r.number);
 }
@@ -93,7 +103,10 @@ fn refused_render(rt: &impl Print, s: Session) {
 fn refused_malformed(rt: &impl Print, s: Session) {
     let mut made = s;
     made.counts[7] = 17;
-    line(rt, b"(on a session made by hand, with a count of 17 standing directions)");
+    line(
+        rt,
+        b"(on a session made by hand, with a count of 17 standing directions)",
+    );
     settle(rt, made, 0);
 }
 
@@ -117,7 +130,10 @@ pub fn rehearse(rt: &impl Print) {
     let first = first_block(rt, fresh);
     let second = second_block(rt, first);
     end(rt);
-    line(rt, b"What the session holds now, directions in radians, start rows as slot and gain:");
+    line(
+        rt,
+        b"What the session holds now, directions in radians, start rows as slot and gain:",
+    );
     holds(rt, second);
     end(rt);
     line(rt, b"Calls that are refused, and change nothing:");

@@ -197,7 +197,14 @@ fn replay(out: &impl Print, input: &mut impl Read) {
     let mut numbers = [0u64; 12];
     let mut samples = [0.0f32; SAMPLES];
     let mut outputs = [0.0f32; OUTPUTS];
-    let differences = replay_all(out, input, &mut counts, &mut numbers, &mut samples, &mut outputs);
+    let differences = replay_all(
+        out,
+        input,
+        &mut counts,
+        &mut numbers,
+        &mut samples,
+        &mut outputs,
+    );
     report::totals(out, &counts, &numbers, differences);
 }
 

@@ -1,8 +1,6 @@
 // What a replay writes to standard output.
 use crate::Outcome;
-use test_lines::report::{
-    count_row, heading, print_hex, write_all, write_number, write_place,
-};
+use test_lines::report::{count_row, heading, print_hex, write_all, write_number, write_place};
 
 fn write_sum(out: &impl Print, what: &[u8], got: u64) {
     write_all(out, what);
