@@ -6,7 +6,7 @@
 
 ghost use Rattle.std.specs.Prelude.{◌≡◌, cond};
 ghost use Rattle.std.specs.Float.{binary32, binary64};
-ghost use Rattle.std.specs.Float.Ieee.{add, lt};
+ghost use Rattle.std.specs.Float.Ieee.{add, rem, lt};
 ghost use Rattle.float_order.specs.Values.{+0, abs, sign_bit, is_finite};
 ghost use Rattle.float_order.specs.Order.{max_of, min_of, clamp_of, powi4_of};
 ghost use Rattle.float_order.specs.Remainder.{rem_euclid_of};
@@ -141,6 +141,63 @@ pub fn powi4(x: f32) -> f32
 
 // ---- remainder
 
+// The remainder with the sign of x, as C's fmod has it, by whole-number work: the operator % of floats asks the platform's library for it.
+// Origin of 0x80_0000 = 2^23 and, below, 0x10_0000_0000_0000 = 2^52, the weights of the exponent's field: IEEE 754-2019, table 3.5.
+pub fn rem32(x: f32, m: f32) -> f32
+    ensures { result ≡ rem binary32 x m }
+{
+    if x != x {
+        return x + m;
+    }
+    if m != m {
+        return x + m;
+    }
+    let p = f32::to_bits(x);
+    let q = f32::to_bits(m);
+    let a = p % 0x8000_0000;
+    let b = q % 0x8000_0000;
+    // Origin: 255, the exponent's field of the infinities
+    if a / 0x80_0000 == 255 {
+        return x - x;
+    }
+    if b / 0x80_0000 == 255 {
+        return x;
+    }
+    if b == 0 {
+        return m / m;
+    }
+    let r = float_remainder::rem_patterns(a as u64, b as u64, 0x80_0000);
+    f32::from_bits(p - a + r as u32)
+}
+
+// The same of f64 values.
+pub fn rem64(x: f64, m: f64) -> f64
+    ensures { result ≡ rem binary64 x m }
+{
+    if x != x {
+        return x + m;
+    }
+    if m != m {
+        return x + m;
+    }
+    let p = f64::to_bits(x);
+    let q = f64::to_bits(m);
+    let a = p % 0x8000_0000_0000_0000;
+    let b = q % 0x8000_0000_0000_0000;
+    // Origin: 2047, the exponent's field of the infinities
+    if a / 0x10_0000_0000_0000 == 2047 {
+        return x - x;
+    }
+    if b / 0x10_0000_0000_0000 == 2047 {
+        return x;
+    }
+    if b == 0 {
+        return m / m;
+    }
+    let r = float_remainder::rem_patterns(a, b, 0x10_0000_0000_0000);
+    f64::from_bits(p - a + r)
+}
+
 // r, plus the modulus where r is negative.
 fn raised32(r: f32, m: f32) -> f32
     ensures { result ≡ cond (lt r +0) (add binary32 r m) r }
@@ -162,7 +219,7 @@ pub fn rem_euclid32(x: f32, m: f32) -> f32
     if (x < m) & (x > -m) {
         return raised32(x, m);
     }
-    raised32(x % m, m)
+    raised32(rem32(x, m), m)
 }
 
 // The same of f64 values.
@@ -172,5 +229,5 @@ pub fn rem_euclid64(x: f64, m: f64) -> f64
     if (x < m) & (x > -m) {
         return raised64(x, m);
     }
-    raised64(x % m, m)
+    raised64(rem64(x, m), m)
 }

@@ -108,7 +108,7 @@ fn rem_two_pi(v: f64) -> f64
     if (v < TWO_PI) & (v > -TWO_PI) {
         return v;
     }
-    v % TWO_PI
+    float_order::rem64(v, TWO_PI)
 }
 
 // k as a float, and k mod 4.

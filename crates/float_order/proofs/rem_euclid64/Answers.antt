@@ -16,4 +16,4 @@ returns-then-x-m c =
 
 pub returns : goal.returns
 unfolding rem_euclid_of
-returns c = c.raised64-2.ensures
+returns c = c.raised64-2.ensures ∙ ap (λ (r : Float). cond (lt r +0) (add binary64 r c.args.m) r) c.rem64.ensures

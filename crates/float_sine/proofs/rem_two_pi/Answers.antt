@@ -13,4 +13,4 @@ returns-then-v c =
 
 pub returns : goal.returns
 unfolding remainder
-returns c = refl
+returns c = c.rem64.ensures
