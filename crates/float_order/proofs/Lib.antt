@@ -6,3 +6,4 @@ pub mod Read
 pub mod Remainder
 pub mod Rounded
 pub mod Values
+pub mod Weights

@@ -7,15 +7,15 @@ use mathlib.Core.Bool.{Bool, true, false, not, cond}
 use lib.Dec.{T, leb, ltb, eqb, ltb→lt, nltb→le, leb→le, nleb→lt, le→leb}
 use lib.Arith.{lt→nleb, le→nltb}
 use lib.Pow.{pow_pos}
-use lib.Ieee.{Float, nan, inf, fin, Format, prec, low, up, down, unlike, neg, add, sub, div, ne, round, rem, fits, is_nan, nan_bits, hid, ones, top, of_bits, to_bits}
+use lib.Ieee.{Float, nan, inf, fin, Format, prec, low, up, down, unlike, neg, add, div, round, rem, fits, is_nan, nan_bits, hid, ones, top, of_bits, to_bits}
 use lib.Ieee.Bits.{is_true, is_false, to_bits-lt, of_bits-fits, to_bits-of_bits, nan_bits_is, nan_bits_above}
 use lib.Ieee.Fits.{up_pos, down_pos}
 use lib.Ieee.Scale.{round_same}
 use lib.Ieee.Exact.{HasValue}
-use lib.Ieee.Compare.{differs_from_itself}
 use borrow.Author.Tests.{ne_eqb, eq-eqb}
 use Rattle.float_remainder.specs.Patterns.{units_of}
 use Rattle.float_remainder.proofs.Laws.{scaled}
+use Rattle.float_order.proofs.Order.{is_nan-is}
 use Rattle.float_order.proofs.Read.{value_low, value_mid}
 use Rattle.float_order.proofs.Rounded.{round_own}
 
@@ -170,25 +170,25 @@ rem_not_nan f x P h l =
 -- ---- the other values
 
 -- of a NaN, and by one: a sum that is no number either
-pub rem_nan : (f : Format) (x y : Float) → T (ne x x) → add f x y ≡ rem f x y
+pub rem_nan : (f : Format) (x y : Float) → is_nan x ≡ true → add f x y ≡ rem f x y
 unfolding add rem
-rem_nan f x y h = subst (λ (v : Float). add f v y ≡ rem f v y) (sym (differs_from_itself x h)) refl
+rem_nan f x y h = subst (λ (v : Float). add f v y ≡ rem f v y) (sym (is_nan-is x h)) refl
 
-pub rem_by_nan : (f : Format) (x y : Float) → T (ne y y) → add f x y ≡ rem f x y
+pub rem_by_nan : (f : Format) (x y : Float) → is_nan y ≡ true → add f x y ≡ rem f x y
 unfolding add rem
-rem_by_nan f x y h = subst (λ (v : Float). add f x v ≡ rem f x v) (sym (differs_from_itself y h)) (go x)
+rem_by_nan f x y h = subst (λ (v : Float). add f x v ≡ rem f x v) (sym (is_nan-is y h)) (go x)
   where
     go : (x : Float) → add f x nan ≡ rem f x nan
     go nan = refl
     go (inf s) = refl
     go (fin s m e) = refl
 
--- of an infinity: the difference with itself, which is no number
-pub rem_of_inf : (f : Format) (x y : Float) (s : Bool) → x ≡ inf s → sub f x x ≡ rem f x y
-unfolding sub add neg rem
-rem_of_inf f x y s e = subst (λ (v : Float). sub f v v ≡ rem f v y) (sym e) (go s)
+-- of an infinity: the sum with its negative, which is no number
+pub rem_of_inf : (f : Format) (x y : Float) (s : Bool) → x ≡ inf s → add f x (neg x) ≡ rem f x y
+unfolding add neg rem
+rem_of_inf f x y s e = subst (λ (v : Float). add f v (neg v) ≡ rem f v y) (sym e) (go s)
   where
-    go : (s : Bool) → sub f (inf s) (inf s) ≡ rem f (inf s) y
+    go : (s : Bool) → add f (inf s) (neg (inf s)) ≡ rem f (inf s) y
     go true = refl
     go false = refl
 

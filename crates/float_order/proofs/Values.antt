@@ -8,9 +8,11 @@ use Rattle.float_order.specs.Values.{abs, sign_bit, is_finite}
 use Rattle.float_order.proofs.Read.{read_is}
 
 -- ---- the sign
-pub nan_unsigned : (x : Float) → x ≡ nan → false ≡ sign_bit x
-unfolding sign_bit
-nan_unsigned x e = sym (ap sign_bit e)
+pub unsigned : (x : Float) → is_nan x ≡ true → false ≡ sign_bit x
+unfolding is_nan sign_bit
+unsigned nan h = refl
+unsigned (inf s) h = absurd (subst T (sym h) tt)
+unsigned (fin s m e) h = absurd (subst T (sym h) tt)
 
 -- the sign that a value is put together with
 pub odd_signed : (d : ℕ) (s : Bool) (q k l : ℕ) → sign_bit (odd d s q k l) ≡ s

@@ -1,104 +1,282 @@
 // Document 01, "Number work": signs, maximum, minimum, clamp, the fourth power and rem_euclid. Widths and whole numbers are in crate float_widths, the root in crate float_root.
 // Of a NaN the promises say only that it is one: its sign and payload are the program's, and every choice is a NaN. What is computed is a quiet one (IEEE 754-2019, 6.2);
-// abs32, abs64 and clamp hand a NaN on as it came, as copies do.
-// Origin of the weights of the sign, 2^31 = 0x8000_0000 and 2^63 = 0x8000_0000_0000_0000: IEEE 754-2019, table 3.5.
+// abs and clamp hand a NaN on as it came, as copies do.
 #![tactic(auto)]
 
-ghost use Rattle.std.specs.Prelude.{◌≡◌, cond};
-ghost use Rattle.std.specs.Float.{binary32, binary64};
-ghost use Rattle.std.specs.Float.Ieee.{add, rem, lt};
+ghost use Rattle.std.specs.Prelude.{◌≡◌, ℕ, ◌+◌, ◌*◌, ◌^◌, ◌<◌, ◌≤◌, T, Float, MatchOption, cond, not, true, false, is_nan, to_bits, from_bits};
+ghost use Rattle.std.specs.Float.{Format, binary32, binary64, inf};
+ghost use Rattle.std.specs.Float.Ieee.{add, div, neg, rem, lt, eq, nan_bits, fits};
 ghost use Rattle.float_order.specs.Values.{+0, abs, sign_bit, is_finite};
 ghost use Rattle.float_order.specs.Order.{max_of, min_of, clamp_of, powi4_of};
 ghost use Rattle.float_order.specs.Remainder.{rem_euclid_of};
+ghost use Rattle.float_order.specs.Width.{Weights, Patterned, Sizes, weights32, weights64, sizes32, sizes64};
+
+use float_remainder::Field;
+
+// ---- the two widths
+
+// A float type: binary32 or binary64 of IEEE 754-2019, table 3.5.
+pub trait Width: Copy {
+    // Its format, and a value as the definitions see it.
+    ghost format: { Format };
+
+    ghost value: { Self → Float };
+
+    ghost SIGN: { ℕ };
+
+    ghost FIELD: { ℕ };
+
+    ghost HIGHEST: { ℕ };
+
+    ghost DIGITS: { ℕ };
+
+    ghost LOWEST: { ℕ };
+
+    // The weights of the sign and of the exponent's field in a pattern, and the highest field, of infinities and NaNs.
+    const SIGN: u64;
+
+    const FIELD: u64;
+
+    const HIGHEST: u64;
+
+    // How many digits a value has, the leading one counted, and the power of two of which the smallest value is one part.
+    const DIGITS: u32;
+
+    const LOWEST: u32;
+
+    fn zero() -> Self
+        ensures { value result ≡ +0 };
+
+    fn infinity() -> Self
+        ensures { value result ≡ inf false };
+
+    // The bit pattern; of a NaN none, as its bits are the program's.
+    fn pattern(self) -> Option<u64>
+        ensures { MatchOption result (is_nan (value self) ≡ true) (Patterned format (value self)) };
+
+    // The value of a pattern that is no NaN's.
+    fn of_pattern(n: u64) -> Self
+        requires { (n < 2 * SIGN) × T (not (nan_bits format n)) }
+        ensures { value result ≡ from_bits format n };
+
+    fn is_less(self, other: Self) -> bool
+        ensures held { T (fits format (value self)) }
+        ensures less { result ≡ lt (value self) (value other) };
+
+    fn is_equal(self, other: Self) -> bool
+        ensures { result ≡ eq (value self) (value other) };
+
+    fn negated(self) -> Self
+        ensures { value result ≡ neg (value self) };
+
+    fn plus(self, other: Self) -> Self
+        ensures { value result ≡ add format (value self) (value other) };
+
+    fn over(self, other: Self) -> Self
+        ensures { value result ≡ div format (value self) (value other) };
+
+    // Only a NaN differs from itself.
+    final fn is_nan(self) -> bool
+        ensures { result ≡ is_nan (value self) }
+    {
+        !self.is_equal(self)
+    }
+
+    ghost weights: { Weights format SIGN FIELD HIGHEST };
+
+    ghost sizes: { Sizes format DIGITS LOWEST };
+}
+
+impl Width for f32 {
+    ghost format = { binary32 };
+
+    ghost value = { λ x. x };
+
+    ghost SIGN = { 0x8000_0000 };
+
+    ghost FIELD = { 0x80_0000 };
+
+    ghost HIGHEST = { 255 };
+
+    ghost DIGITS = { 24 };
+
+    ghost LOWEST = { 149 };
+
+    // Origin: IEEE 754-2019, table 3.5: 2^31.
+    const SIGN: u64 = 0x8000_0000;
+
+    // Origin: the same: 2^23.
+    const FIELD: u64 = 0x80_0000;
+
+    // Origin: the same: 2 * 127 + 1, emax twice and one.
+    const HIGHEST: u64 = 255;
+
+    // Origin: the same: the digits.
+    const DIGITS: u32 = 24;
+
+    // Origin: the same: the smallest value is 2^-149.
+    const LOWEST: u32 = 149;
+
+    ghost weights = { weights32 };
+
+    ghost sizes = { sizes32 };
+
+    fn zero() -> f32 {
+        0.0
+    }
+
+    fn infinity() -> f32 {
+        1.0 / 0.0
+    }
+
+    fn pattern(self) -> Option<u64> {
+        if self != self {
+            return None;
+        }
+        Some(f32::to_bits(self) as u64)
+    }
+
+    fn of_pattern(n: u64) -> f32 {
+        f32::from_bits(n as u32)
+    }
+
+    fn is_less(self, other: f32) -> bool {
+        self < other
+    }
+
+    fn is_equal(self, other: f32) -> bool {
+        self == other
+    }
+
+    fn negated(self) -> f32 {
+        -self
+    }
+
+    fn plus(self, other: f32) -> f32 {
+        self + other
+    }
+
+    fn over(self, other: f32) -> f32 {
+        self / other
+    }
+}
+
+impl Width for f64 {
+    ghost format = { binary64 };
+
+    ghost value = { λ x. x };
+
+    ghost SIGN = { 0x8000_0000_0000_0000 };
+
+    ghost FIELD = { 0x10_0000_0000_0000 };
+
+    ghost HIGHEST = { 2047 };
+
+    ghost DIGITS = { 53 };
+
+    ghost LOWEST = { 1074 };
+
+    // Origin: IEEE 754-2019, table 3.5: 2^63.
+    const SIGN: u64 = 0x8000_0000_0000_0000;
+
+    // Origin: the same: 2^52.
+    const FIELD: u64 = 0x10_0000_0000_0000;
+
+    // Origin: the same: 2 * 1023 + 1.
+    const HIGHEST: u64 = 2047;
+
+    // Origin: the same: the digits.
+    const DIGITS: u32 = 53;
+
+    // Origin: the same: the smallest value is 2^-1074.
+    const LOWEST: u32 = 1074;
+
+    ghost weights = { weights64 };
+
+    ghost sizes = { sizes64 };
+
+    fn zero() -> f64 {
+        0.0
+    }
+
+    fn infinity() -> f64 {
+        1.0 / 0.0
+    }
+
+    fn pattern(self) -> Option<u64> {
+        if self != self {
+            return None;
+        }
+        Some(f64::to_bits(self))
+    }
+
+    fn of_pattern(n: u64) -> f64 {
+        f64::from_bits(n)
+    }
+
+    fn is_less(self, other: f64) -> bool {
+        self < other
+    }
+
+    fn is_equal(self, other: f64) -> bool {
+        self == other
+    }
+
+    fn negated(self) -> f64 {
+        -self
+    }
+
+    fn plus(self, other: f64) -> f64 {
+        self + other
+    }
+
+    fn over(self, other: f64) -> f64 {
+        self / other
+    }
+}
 
 // ---- signs and kinds
 
 // Whether the sign bit is set, of -0 too. The logic's one NaN has no sign, so what a NaN answers is the program's choice: its sign counts as clear.
-pub fn sign_bit32(x: f32) -> bool
-    ensures { result ≡ sign_bit x }
+pub fn sign_bit<W: Width>(x: W) -> bool
+    ensures { result ≡ sign_bit (W.value x) }
 {
-    if x != x {
-        return false; // the choice: clear
+    match x.pattern() {
+        Some(p) => p >= W::SIGN,
+        None => false, // the choice: clear
     }
-    f32::to_bits(x) >= 0x8000_0000
-}
-
-// The same of an f64.
-pub fn sign_bit64(x: f64) -> bool
-    ensures { result ≡ sign_bit x }
-{
-    if x != x {
-        return false;
-    }
-    f64::to_bits(x) >= 0x8000_0000_0000_0000
 }
 
 // x without its sign.
-pub fn abs32(x: f32) -> f32
-    ensures { result ≡ abs x }
+pub fn abs<W: Width>(x: W) -> W
+    ensures { W.value result ≡ abs (W.value x) }
 {
-    if sign_bit32(x) { -x } else { x }
-}
-
-// The same of an f64.
-pub fn abs64(x: f64) -> f64
-    ensures { result ≡ abs x }
-{
-    if sign_bit64(x) { -x } else { x }
+    if sign_bit(x) { x.negated() } else { x }
 }
 
 // Neither a NaN nor an infinity.
-pub fn is_finite32(x: f32) -> bool
-    ensures { result ≡ is_finite x }
+pub fn is_finite<W: Width>(x: W) -> bool
+    ensures { result ≡ is_finite (W.value x) }
 {
-    (x < 1.0 / 0.0) & (x > -1.0 / 0.0)
-}
-
-// The same of an f64.
-pub fn is_finite64(v: f64) -> bool
-    ensures { result ≡ is_finite v }
-{
-    (v < 1.0 / 0.0) & (v > -1.0 / 0.0)
+    x.is_less(W::infinity()) & W::infinity().negated().is_less(x)
 }
 
 // ---- order and powers
 
 // The greater; the other value for a NaN, +0 for two zeros. Of two NaNs the sum, which is a quiet NaN.
-pub fn max32(x: f32, y: f32) -> f32
-    ensures { result ≡ max_of x y }
+pub fn max<W: Width>(x: W, y: W) -> W
+    ensures { W.value result ≡ max_of (W.value x) (W.value y) }
 {
-    if x != x {
-        if y != y {
-            return x + y;
-        }
-        return y;
+    if x.is_nan() {
+        return if y.is_nan() { x.plus(y) } else { y };
     }
-    if y != y {
+    if y.is_nan() {
         return x;
     }
-    if (x == 0.0) & (y == 0.0) {
-        return 0.0;
+    if x.is_equal(W::zero()) & y.is_equal(W::zero()) {
+        return W::zero();
     }
-    if x < y { y } else { x }
-}
-
-// The same of f64 values.
-pub fn max64(v: f64, w: f64) -> f64
-    ensures { result ≡ max_of v w }
-{
-    if v != v {
-        if w != w {
-            return v + w;
-        }
-        return w;
-    }
-    if w != w {
-        return v;
-    }
-    if (v == 0.0) & (w == 0.0) {
-        return 0.0;
-    }
-    if v < w { w } else { v }
+    if x.is_less(y) { y } else { x }
 }
 
 // The lesser; the other value for a NaN, and of two NaNs the sum, which is a quiet NaN.
@@ -142,92 +320,44 @@ pub fn powi4(x: f32) -> f32
 // ---- remainder
 
 // The remainder with the sign of x, as C's fmod has it, by whole-number work: the operator % of floats asks the platform's library for it.
-// Origin of 0x80_0000 = 2^23 and, below, 0x10_0000_0000_0000 = 2^52, the weights of the exponent's field: IEEE 754-2019, table 3.5.
-pub fn rem32(x: f32, m: f32) -> f32
-    ensures { result ≡ rem binary32 x m }
+pub fn rem<W: Width>(x: W, m: W) -> W
+    ensures { W.value result ≡ rem W.format (W.value x) (W.value m) }
 {
-    if x != x {
-        return x + m;
+    let Some(p) = x.pattern() else {
+        return x.plus(m)
+    };
+    let Some(q) = m.pattern() else {
+        return x.plus(m)
+    };
+    let (sign, weight, highest) = (W::SIGN, W::FIELD, W::HIGHEST);
+    let a = p % sign;
+    let b = q % sign;
+    if a / weight == highest {
+        return x.plus(x.negated());
     }
-    if m != m {
-        return x + m;
-    }
-    let p = f32::to_bits(x);
-    let q = f32::to_bits(m);
-    let a = p % 0x8000_0000;
-    let b = q % 0x8000_0000;
-    // Origin: 255, the exponent's field of the infinities
-    if a / 0x80_0000 == 255 {
-        return x - x;
-    }
-    if b / 0x80_0000 == 255 {
+    if b / weight == highest {
         return x;
     }
     if b == 0 {
-        return m / m;
+        return m.over(m);
     }
-    let r = float_remainder::rem_patterns(a as u64, b as u64, 0x80_0000);
-    f32::from_bits(p - a + r as u32)
-}
-
-// The same of f64 values.
-pub fn rem64(x: f64, m: f64) -> f64
-    ensures { result ≡ rem binary64 x m }
-{
-    if x != x {
-        return x + m;
-    }
-    if m != m {
-        return x + m;
-    }
-    let p = f64::to_bits(x);
-    let q = f64::to_bits(m);
-    let a = p % 0x8000_0000_0000_0000;
-    let b = q % 0x8000_0000_0000_0000;
-    // Origin: 2047, the exponent's field of the infinities
-    if a / 0x10_0000_0000_0000 == 2047 {
-        return x - x;
-    }
-    if b / 0x10_0000_0000_0000 == 2047 {
-        return x;
-    }
-    if b == 0 {
-        return m / m;
-    }
-    let r = float_remainder::rem_patterns(a, b, 0x10_0000_0000_0000);
-    f64::from_bits(p - a + r)
+    let r = Field { weight }.rem_patterns(a, b);
+    W::of_pattern(p - a + r)
 }
 
 // r, plus the modulus where r is negative.
-fn raised32(r: f32, m: f32) -> f32
-    ensures { result ≡ cond (lt r +0) (add binary32 r m) r }
+fn raised<W: Width>(r: W, m: W) -> W
+    ensures { W.value result ≡ cond (lt (W.value r) +0) (add W.format (W.value r) (W.value m)) (W.value r) }
 {
-    if r < 0.0 { r + m } else { r }
-}
-
-// The same of f64 values.
-fn raised64(r: f64, m: f64) -> f64
-    ensures { result ≡ cond (lt r +0) (add binary64 r m) r }
-{
-    if r < 0.0 { r + m } else { r }
+    if r.is_less(W::zero()) { r.plus(m) } else { r }
 }
 
 // The remainder, plus the modulus where negative; -0 stays. Between m and -m the remainder is x.
-pub fn rem_euclid32(x: f32, m: f32) -> f32
-    ensures { result ≡ rem_euclid_of binary32 x m }
+pub fn rem_euclid<W: Width>(x: W, m: W) -> W
+    ensures { W.value result ≡ rem_euclid_of W.format (W.value x) (W.value m) }
 {
-    if (x < m) & (x > -m) {
-        return raised32(x, m);
+    if x.is_less(m) & m.negated().is_less(x) {
+        return raised(x, m);
     }
-    raised32(rem32(x, m), m)
-}
-
-// The same of f64 values.
-pub fn rem_euclid64(x: f64, m: f64) -> f64
-    ensures { result ≡ rem_euclid_of binary64 x m }
-{
-    if (x < m) & (x > -m) {
-        return raised64(x, m);
-    }
-    raised64(rem64(x, m), m)
+    raised(rem(x, m), m)
 }
