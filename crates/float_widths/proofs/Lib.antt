@@ -1,3 +1,4 @@
 pub mod Examples
 pub mod Grid
 pub mod Meaning
+pub mod Patterns

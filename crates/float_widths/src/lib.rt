@@ -4,15 +4,17 @@
 // the sign 2^31 = 0x8000_0000 and 2^63 = 0x8000_0000_0000_0000, and the highest field, of infinities and NaNs, is 255 and 2047.
 #![tactic(auto)]
 
-ghost use Rattle.std.specs.Prelude.{◌≡◌, ◌+◌, ◌*◌, ◌/◌, ◌%◌, ◌^◌, ◌<◌, ◌≤◌, ◌&&◌, ◌||◌, pos, if◌then◌else◌, ◌==◌, nat_eq};
+ghost use Rattle.std.specs.Prelude.{◌≡◌, ◌+◌, ◌-◌, ◌*◌, ◌/◌, ◌%◌, ◌^◌, ◌<◌, ◌≤◌, ◌&&◌, ◌||◌, pos, if◌then◌else◌, ◌==◌, nat_eq};
 ghost use Rattle.std.specs.Float.{binary32, binary64};
-ghost use Rattle.std.specs.Float.Ieee.{units, round, of_int};
+ghost use Rattle.std.specs.Float.Ieee.{prec, units, round, of_int};
 ghost use Rattle.std.specs.Float.Ieee.Nearest.{closest};
 ghost use Rattle.float_widths.specs.Narrow.{narrow_of};
 
+use float_order::Width;
+
 // ---- widths
 
-// x at the wider format: the same value. Of a NaN, here and below, the sign and payload are the program's: every choice is a NaN, and a quiet one (IEEE 754-2019, 6.2).
+// x at the wider format: the same value, where `narrow` rounds, so that the two have no step in common. Of a NaN, here and below, the sign and payload are the program's: every choice is a NaN, and a quiet one (IEEE 754-2019, 6.2).
 pub fn widen(x: f32) -> f64
     ensures { result ≡ x }
 {
@@ -45,36 +47,24 @@ pub fn round_shift(m: u64, sh: u32) -> u64
     d / 2 + carry(d, (d << h) != m)
 }
 
-// q * 2^k of the smallest f32 values, with the sign; too many are an infinity.
-// The pattern is a sum: the leading digit of q adds one to the exponent's field, and a q of 2^24 carries into it.
-pub fn assemble32(neg: bool, q: u32, k: u32) -> f32
-    requires { (q ≤ 2 ^ 24) × (0 < k → 2 ^ 23 ≤ q) }
-    ensures { result ≡ units binary32 neg q k }
+// q * 2^k of the format's smallest values, with the sign; too many are an infinity.
+// The pattern is a sum: the leading digit of q adds one to the exponent's field, and a q with one digit more, 2^24 or 2^53, carries into it.
+pub fn assemble<W: Width>(neg: bool, q: u64, k: u32) -> W
+    requires { (q ≤ 2 ^ prec W.format) × (0 < k → 2 ^ (prec W.format - 1) ≤ q) }
+    ensures { W.value result ≡ units W.format neg q k }
 {
-    // Origin: 2 * emax
-    if k >= 254 {
-        if neg { -1.0 / 0.0 } else { 1.0 / 0.0 }
+    let (sign, weight, highest) = (W::SIGN, W::FIELD, W::HIGHEST);
+    // Origin: 2 * emax is one less than the highest field
+    if k as u64 >= highest - 1 {
+        if neg {
+            W::infinity().negated()
+        } else {
+            W::infinity()
+        }
     } else if neg {
-        // Origin: the weights of the sign and of the exponent's field
-        f32::from_bits(0x8000_0000 + (k * 0x80_0000 + q))
+        W::of_pattern(sign + (k as u64 * weight + q))
     } else {
-        f32::from_bits(k * 0x80_0000 + q)
-    }
-}
-
-// The same of f64 values: a q of 2^53 carries.
-pub fn assemble64(neg: bool, q: u64, k: u32) -> f64
-    requires { (q ≤ 2 ^ 53) × (0 < k → 2 ^ 52 ≤ q) }
-    ensures { result ≡ units binary64 neg q k }
-{
-    // Origin: 2 * emax
-    if k >= 2046 {
-        if neg { -1.0 / 0.0 } else { 1.0 / 0.0 }
-    } else if neg {
-        // Origin: the weights of the sign and of the exponent's field
-        f64::from_bits(0x8000_0000_0000_0000 + ((k as u64) * 0x10_0000_0000_0000 + q))
-    } else {
-        f64::from_bits((k as u64) * 0x10_0000_0000_0000 + q)
+        W::of_pattern(k as u64 * weight + q)
     }
 }
 
@@ -86,9 +76,9 @@ fn pack32(neg: bool, m: u64, j: u32) -> f32
     let z = 64 - u64::leading_zeros(m);
     // Origin: 925 is 1074 - 149, and 949 is 925 + 24: up to there no digit before the point is dropped
     if z + j <= 949 {
-        assemble32(neg, round_shift(m, 925 - j) as u32, 0)
+        assemble(neg, round_shift(m, 925 - j), 0)
     } else {
-        assemble32(neg, round_shift(m, z - 24) as u32, z + j - 949)
+        assemble(neg, round_shift(m, z - 24), z + j - 949)
     }
 }
 
@@ -98,7 +88,7 @@ fn pack32_normal(neg: bool, m: u64, k: u32) -> f32
     ensures { result ≡ round binary32 neg (m * 2 ^ (k + 896)) (2 ^ 1074) }
 {
     // Origin: 53 - 24
-    assemble32(neg, round_shift(m, 29) as u32, k)
+    assemble(neg, round_shift(m, 29), k)
 }
 
 // x at the narrower format: the nearest f32, a tie to the even one.
@@ -127,7 +117,7 @@ pub fn narrow(x: f64) -> f32
 
 // ---- whole numbers
 
-// The f32 nearest to n.
+// The f32 nearest to n. It has no form with the f64's below: the digits of a u64 that an f64 drops are dropped by std's function.
 pub fn f32_from_u64(n: u64) -> f32
     ensures { result ≡ of_int binary32 (pos n) }
 {

@@ -69,11 +69,8 @@ kept c =
     subst (λ (x : ℕ). x ≤ 2 ^ 24) (sym c.round_shift.ensures)
     (closest_le c.args.m (2 ^ (925 - c.args.j)) (2 ^ 24) (pow_pos (925 - c.args.j)) (under c.args.m (64 - count_leading_zeros 64 c.args.m) c.args.j (len c.before.before) c.requires.1 c.if-z-j-le949.true))
 
-pub overflow_cast-round_shift : goal.overflow_cast-round_shift
-overflow_cast-round_shift c = let h = kept c in omega arith
-
-pub assemble32-requires : goal.assemble32-requires
-assemble32-requires c = (kept c, (λ z. absurd (lt_irrefl 0 z)))
+pub assemble-requires : goal.assemble-requires
+assemble-requires c = (kept c, (λ z. absurd (lt_irrefl 0 z)))
 
 pub overflow_sub-z-else-z-j-le949 : goal.overflow_sub-z-else-z-j-le949
 overflow_sub-z-else-z-j-le949 c = let h = more c.args.m (64 - count_leading_zeros 64 c.args.m) c.args.j (len (goal.at.overflow_sub-z-else-z-j-le949 c).Start) c.requires.1 c.if-z-j-le949.false in omega arith
@@ -86,21 +83,18 @@ kept-2 c =
       closest_ge c.args.m (2 ^ (z - 24)) (2 ^ 23) (pow_pos (z - 24)) (over-2 c.args.m z c.args.j (len c.before.before) c.requires.1 c.if-z-j-le949.false),
     )
 
-pub overflow_cast-round_shift-else-z-j-le949 : goal.overflow_cast-round_shift-else-z-j-le949
-overflow_cast-round_shift-else-z-j-le949 c = let h = kept-2 c in omega arith
-
-pub assemble32-requires-else-z-j-le949 : goal.assemble32-requires-else-z-j-le949
-assemble32-requires-else-z-j-le949 c = ((kept-2 c).0, (λ _. (kept-2 c).1))
+pub assemble-requires-else-z-j-le949 : goal.assemble-requires-else-z-j-le949
+assemble-requires-else-z-j-le949 c = ((kept-2 c).0, (λ _. (kept-2 c).1))
 
 pub returns-then-z-j-le949 : goal.returns-then-z-j-le949
 returns-then-z-j-le949 c =
-    c.assemble32.ensures
+    c.assemble.ensures
     ∙ ap (λ (x : ℕ). units binary32 c.args.neg x 0) c.round_shift.ensures
     ∙ sym (is c.args.m (64 - count_leading_zeros 64 c.args.m) c.args.j (len (goal.at.returns-then-z-j-le949 c).Start) c.requires.1 c.args.neg c.if-z-j-le949.true)
 
 pub returns-else-z-j-le949 : goal.returns-else-z-j-le949
 returns-else-z-j-le949 c =
     let z = 64 - count_leading_zeros 64 c.args.m in
-    c.assemble32-else-z-j-le949.ensures
+    c.assemble-else-z-j-le949.ensures
     ∙ ap (λ (x : ℕ). units binary32 c.args.neg x (z + c.args.j - 949)) c.round_shift-else-z-j-le949.ensures
     ∙ sym (is-2 c.args.m z c.args.j (len (goal.at.returns-else-z-j-le949 c).Start) c.requires.1 c.args.neg c.if-z-j-le949.false)

@@ -12,15 +12,12 @@ kept c =
       closest_ge c.args.m (2 ^ 29) (2 ^ 23) (pow_pos 29) c.requires.0,
     )
 
-pub overflow_cast-round_shift : goal.overflow_cast-round_shift
-overflow_cast-round_shift c = let h = kept c in omega arith
-
-pub assemble32-requires : goal.assemble32-requires
-assemble32-requires c = ((kept c).0, (λ _. (kept c).1))
+pub assemble-requires : goal.assemble-requires
+assemble-requires c = ((kept c).0, (λ _. (kept c).1))
 
 pub returns : goal.returns
 returns c =
-    c.assemble32.ensures
+    c.assemble.ensures
     ∙ ap (λ (x : ℕ). units binary32 c.args.neg x c.args.k) c.round_shift.ensures
     ∙ sym (round_shifted binary32 c.args.neg c.args.m (c.args.k + 896) 1074 29 c.args.k (sum c.args.k) c.requires.1 (λ _. c.requires.0))
   where
