@@ -1,8 +1,11 @@
 // The digits of a square root, over whole numbers: found one after the other, and tested where a float guesses them.
-// Every literal that is a format's constant is IEEE 754-2019, table 3.5: in a binary64's bit pattern the exponent's field weighs 2^52 = 0x10_0000_0000_0000, in a binary32's 2^23 = 0x80_0000.
+// Every literal that is a format's constant is IEEE 754-2019, table 3.5: in a binary64's bit pattern the exponent's field weighs 2^52 = 0x10_0000_0000_0000.
 #![tactic(auto)]
 
-ghost use Rattle.std.specs.Prelude.{◌≡◌, ◌+◌, ◌-◌, ◌*◌, ◌/◌, ◌%◌, ◌^◌, ◌<◌, ◌≤◌, true};
+ghost use Rattle.std.specs.Prelude.{◌≡◌, ◌+◌, ◌-◌, ◌*◌, ◌/◌, ◌%◌, ◌^◌, ◌<◌, ◌≤◌, true, IfSome};
+ghost use Rattle.std.specs.Float.Ieee.{prec};
+
+use float_order::Width;
 
 // A whole root, and what is left.
 #[derive(Clone, Copy)]
@@ -19,9 +22,8 @@ pub fn root_by_digits(m: u64) -> Found
     let mut left = m;
     let mut root: u64 = 0;
     let mut rem: u64 = 0;
-    let mut i: u32 = 0;
     // Origin: m * 2^46 has 110 digits, two for each of the root's. 2^62: the two highest digits of `left`
-    while i < 55 {
+    for i in 0..55u32 {
         rem = rem * 4 + left / 0x4000_0000_0000_0000;
         left = left % 0x4000_0000_0000_0000 * 4;
         root = root * 2;
@@ -29,7 +31,6 @@ pub fn root_by_digits(m: u64) -> Found
             rem = rem - (root * 2 + 1);
             root = root + 1;
         }
-        i += 1;
     }
     Found { root, rem }
 }
@@ -59,40 +60,41 @@ fn is_root52(n: u64, q: u64) -> bool
     lower < q * 2
 }
 
-// The digits of g where they are the root of n * 2^52 to the nearest whole number, else 0.
-// One side is promised: what is not 0 is the root. That a good guess is not answered with 0 is left open, and nothing rests on it: `float_root` then finds the digits one by one.
-pub fn root_digits64(n: u64, g: f64) -> u64
+// The digits of g where they are the root of n * 2^52 to the nearest whole number.
+// One side is promised: some digits are the root's. That a good guess has some is left open, and nothing rests on it: `float_root` then finds the digits one by one.
+// It has no form with the 32 bits' below: there the squares fit a word, and the digits of g are rounded first.
+pub fn root_digits64(n: u64, g: f64) -> Option<u64>
     requires { n < 2 ^ 54 }
-    ensures { 0 < result → (2 ^ 52 ≤ result) × (result < 2 ^ 53) × (result * result < n * 2 ^ 52 + result) × (n * 2 ^ 52 ≤ result * result + result) }
+    ensures { IfSome result (λ q. (2 ^ 52 ≤ q) × (q < 2 ^ 53) × (q * q < n * 2 ^ 52 + q) × (n * 2 ^ 52 ≤ q * q + q)) }
 {
     if g != g {
-        return 0;
+        return None;
     }
     let p = f64::to_bits(g);
     // Origin: 1023, the exponent's field from 1 to 2
     if p / 0x10_0000_0000_0000 != 1023 {
-        return 0;
+        return None;
     }
     // Origin: 1022 * 2^52; the pattern less that is the leading digit and those below
     let q = p - 0x3fe0_0000_0000_0000;
     if is_root52(n, q) {
-        return q;
+        return Some(q);
     }
-    0
+    None
 }
 
-// The upper 24 digits of g where they are the root of n * 2^23 to the nearest whole number, else 0. One side is promised, as above.
-pub fn root_digits32(n: u64, g: f64) -> u64
+// The upper 24 digits of g where they are the root of n * 2^23 to the nearest whole number. One side is promised, as above.
+pub fn root_digits32(n: u64, g: f64) -> Option<u64>
     requires { n < 2 ^ 25 - 1 }
-    ensures { 0 < result → (2 ^ 23 ≤ result) × (result < 2 ^ 24) × (result * result < n * 2 ^ 23 + result) × (n * 2 ^ 23 ≤ result * result + result) }
+    ensures { IfSome result (λ q. (2 ^ 23 ≤ q) × (q < 2 ^ 24) × (q * q < n * 2 ^ 23 + q) × (n * 2 ^ 23 ≤ q * q + q)) }
 {
     if g != g {
-        return 0;
+        return None;
     }
     let p = f64::to_bits(g);
     // Origin: 1023, the exponent's field from 1 to 2
     if p / 0x10_0000_0000_0000 != 1023 {
-        return 0;
+        return None;
     }
     // Origin: 1022 * 2^52; the pattern less that is the leading digit and those below. Of 53 digits 29 go, and 2^28 is a half of the last that stays
     let q = (p - 0x3fe0_0000_0000_0000 + 0x1000_0000) / 0x2000_0000;
@@ -100,31 +102,21 @@ pub fn root_digits32(n: u64, g: f64) -> u64
     // Origin: 2^23
     let m = n * 0x80_0000;
     if m + q <= s {
-        return 0;
+        return None;
     }
     if s + q < m {
-        return 0;
+        return None;
     }
-    q
+    Some(q)
 }
 
 // The digits of a value with the pattern b, twice where the exponent's field is even: what is left of the exponent is even.
-pub fn even_digits64(b: u64) -> u64
-    ensures { result ≡ (b % 2 ^ 52 + 2 ^ 52) * 2 ^ (1 - b / 2 ^ 52 % 2) }
+pub fn even_digits<W: Width>(b: u64) -> u64
+    ensures { result ≡ (b % 2 ^ (prec W.format - 1) + 2 ^ (prec W.format - 1)) * 2 ^ (1 - b / 2 ^ (prec W.format - 1) % 2) }
 {
-    let m = b % 0x10_0000_0000_0000 + 0x10_0000_0000_0000;
-    if b / 0x10_0000_0000_0000 % 2 == 1 {
-        return m;
-    }
-    m * 2
-}
-
-// The digits of an f32 with the pattern b, twice where the exponent's field is even.
-pub fn even_digits32(b: u32) -> u32
-    ensures { result ≡ (b % 2 ^ 23 + 2 ^ 23) * 2 ^ (1 - b / 2 ^ 23 % 2) }
-{
-    let m = b % 0x80_0000 + 0x80_0000;
-    if b / 0x80_0000 % 2 == 1 {
+    let weight = W::FIELD;
+    let m = b % weight + weight;
+    if b / weight % 2 == 1 {
         return m;
     }
     m * 2

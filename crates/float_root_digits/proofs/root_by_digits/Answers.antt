@@ -25,7 +25,6 @@ module _ (m left root rem i : ℕ) (v : Inv m left root rem i) (h : i < 55) wher
       let t = twice i in
       let e : (root * 2 + 1) * (root * 2 + 1) ≡ 4 * (root * root) + 4 * root + 1 = ap (λ (x : ℕ). x * x) (next root) ∙ sq_suc (2 * root) ∙ sums root (2 * root * (2 * root)) (root * root) (sq_twice root) in
       record {
-        turns = omega arith;
         short = omega arith;
         rest = omega arith;
         word = omega arith;
@@ -46,7 +45,6 @@ module _ (m left root rem i : ℕ) (v : Inv m left root rem i) (h : i < 55) wher
       let t = twice i in
       let e : root * 2 * (root * 2) ≡ 4 * (root * root) = ap (λ (x : ℕ). x * x) (mul_comm root 2) ∙ sq_twice root in
       record {
-        turns = omega arith;
         short = omega arith;
         rest = omega arith;
         word = omega arith;
@@ -62,7 +60,7 @@ large m root rem a e r = let k = sq_suc root in le_of_suc-le-suc (sq_lt (2 ^ 54)
 
 pub loop-i-init : goal.loop-i-init
 loop-i-init c =
-    record { turns = omega arith; short = omega arith; rest = omega arith; word = omega arith; digits = zero-add c.args.m ∙ sym (mul-one c.args.m) }
+    record { short = omega arith; rest = omega arith; word = omega arith; digits = zero-add c.args.m ∙ sym (mul-one c.args.m) }
 
 pub overflow_mul-rem : goal.overflow_mul-rem
 overflow_mul-rem c = let k = low _ _ _ _ _ c.loop-i.invariant c.loop-i-test.true in omega arith

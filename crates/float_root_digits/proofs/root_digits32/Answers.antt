@@ -20,4 +20,4 @@ overflow_add-s c = let s = mul-le-mul (few (goal.at.overflow_add-s c).Else-p-ne1
 
 pub returns : goal.returns
 returns c =
-    λ _. (omega arith, no_carry c.args.n _ c.requires c.if-m-q.false (few (goal.at.returns c).Else-p-ne1023), c.if-m-q.false, c.if-s-q.false)
+    (omega arith, no_carry c.args.n _ c.requires c.if-m-q.false (few (goal.at.returns c).Else-p-ne1023), c.if-m-q.false, c.if-s-q.false)

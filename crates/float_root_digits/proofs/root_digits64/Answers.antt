@@ -7,4 +7,4 @@ pub float_to_bits-p : goal.float_to_bits-p
 float_to_bits-p c = nan_not _ c.if-g.false
 
 pub returns-then-is_root52 : goal.returns-then-is_root52
-returns-then-is_root52 c = let e = c.is_root52.ensures c.if-is_root52.true in λ _. (omega arith, omega arith, e.0, e.1)
+returns-then-is_root52 c = let e = c.is_root52.ensures c.if-is_root52.true in (omega arith, omega arith, e.0, e.1)
