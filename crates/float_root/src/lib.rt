@@ -10,6 +10,8 @@ ghost use Rattle.std.specs.Float.{Format, binary32, binary64};
 ghost use Rattle.std.specs.Float.Ieee.{prec, low, units};
 ghost use Rattle.float_root.specs.Root.{round_root, sqrt_of};
 
+use float_order::Width;
+
 // A number q * 2^k.
 #[derive(Clone, Copy)]
 struct Parts {
@@ -45,63 +47,40 @@ fn root_parts(m: u64, j: u32, scale: u32, dropped: u32) -> Parts
     }
 }
 
-// The square root of any x, to the nearest f64, by whole numbers alone.
-fn sqrt64_by_digits(x: f64) -> f64
-    ensures { result ≡ sqrt_of binary64 x }
+// The root of m * 2^j smallest values.
+fn root_of<W: Width>(m: u64, j: u32) -> W
+    requires { (0 < m) × (m < 2 ^ 63) × (j < 4096) }
+    ensures { W.value result ≡ round_root W.format (m * 2 ^ j * 2 ^ low W.format) }
 {
-    if x != x {
-        return x + x;
-    }
-    let b = f64::to_bits(x);
-    // Origin: the exponent's field and the digits of a binary64
-    let e = b % 0x8000_0000_0000_0000 / 0x10_0000_0000_0000;
-    let t = b % 0x10_0000_0000_0000;
-    if b % 0x8000_0000_0000_0000 == 0 {
-        return x;
-    }
-    if b >= 0x8000_0000_0000_0000 {
-        return 0.0 / 0.0;
-    }
-    if e == 2047 {
-        return x;
-    }
-    // Origin: 1028 is 1074 - 46, and 2 is 55 - 53
-    if e == 0 {
-        let p = root_parts(t, 0, 1028, 2);
-        float_widths::assemble64(false, p.q, p.k)
-    } else {
-        let p = root_parts(t + 0x10_0000_0000_0000, (e - 1) as u32, 1028, 2);
-        float_widths::assemble64(false, p.q, p.k)
-    }
+    let (digits, lowest) = (W::DIGITS, W::LOWEST);
+    // Origin: `root_parts` finds 55 digits, and puts 46 zeros behind its number
+    let p = root_parts(m, j, lowest - 46, 55 - digits);
+    float_widths::assemble(false, p.q, p.k)
 }
 
-// The square root of any x, to the nearest f32, by whole numbers alone.
-fn sqrt32_by_digits(x: f32) -> f32
-    ensures { result ≡ sqrt_of binary32 x }
+// The square root of any x, to the nearest value, by whole numbers alone.
+fn sqrt_by_digits<W: Width>(x: W) -> W
+    ensures { W.value result ≡ sqrt_of W.format (W.value x) }
 {
-    if x != x {
-        return x + x;
+    let Some(b) = x.pattern() else {
+        return x.plus(x)
+    };
+    let (sign, weight, highest) = (W::SIGN, W::FIELD, W::HIGHEST);
+    let e = b % sign / weight;
+    let t = b % weight;
+    if b % sign == 0 {
+        return x; // each zero is its own root
     }
-    let b = f32::to_bits(x);
-    // Origin: the exponent's field and the digits of a binary32
-    let e = b % 0x8000_0000 / 0x80_0000;
-    let t = b % 0x80_0000;
-    if b % 0x8000_0000 == 0 {
+    if b >= sign {
+        return W::zero().over(W::zero());
+    }
+    if e == highest {
         return x;
     }
-    if b >= 0x8000_0000 {
-        return 0.0 / 0.0;
-    }
-    if e == 255 {
-        return x;
-    }
-    // Origin: 103 is 149 - 46, and 31 is 55 - 24
     if e == 0 {
-        let p = root_parts(t as u64, 0, 103, 31);
-        float_widths::assemble32(false, p.q as u32, p.k)
+        root_of(t, 0)
     } else {
-        let p = root_parts((t + 0x80_0000) as u64, e - 1, 103, 31);
-        float_widths::assemble32(false, p.q as u32, p.k)
+        root_of(t + weight, (e - 1) as u32)
     }
 }
 
@@ -157,21 +136,21 @@ fn sqrt64_from(x: f64, g: f64) -> f64
     // Origin: the exponent's field, with the sign; 2047 is that of infinities and NaNs
     let e = b / 0x10_0000_0000_0000;
     if e == 0 {
-        return sqrt64_by_digits(x);
+        return sqrt_by_digits(x);
     }
     if e >= 2047 {
-        return sqrt64_by_digits(x);
+        return sqrt_by_digits(x);
     }
-    let q = float_root_digits::root_digits64(float_root_digits::even_digits64(b), g);
-    if q == 0 {
-        return sqrt64_by_digits(x);
-    }
+    let n = float_root_digits::even_digits::<f64>(b);
+    let Some(q) = float_root_digits::root_digits64(n, g) else {
+        return sqrt_by_digits(x)
+    };
     // Origin: the exponent is e - 1 + 1074, of which 52 are in n * 2^52. At 1022 x lies from 1 to 4, and the result is g
     let k = (e + 1021) / 2;
     if k == 1022 {
-        return float_widths::assemble64(false, q, 1022);
+        return float_widths::assemble(false, q, 1022);
     }
-    float_widths::assemble64(false, q, k as u32)
+    float_widths::assemble(false, q, k as u32)
 }
 
 // x times or over a power of 4, from 1 to 4; of what has no root, or is too small, any number.
@@ -212,7 +191,7 @@ fn scaled32(b: u32) -> f64 {
     )
 }
 
-// The square root of x, to the nearest f32.
+// The square root of x, to the nearest f32. It has no form with the f64's: a guess is exact enough without a further step, and its digits are tested in one word.
 pub fn sqrt32(x: f32) -> f32
     ensures { result ≡ sqrt_of binary32 x }
 {
@@ -223,16 +202,16 @@ pub fn sqrt32(x: f32) -> f32
     // Origin: the exponent's field, with the sign; 255 is that of infinities and NaNs
     let e = b / 0x80_0000;
     if e == 0 {
-        return sqrt32_by_digits(x);
+        return sqrt_by_digits(x);
     }
     if e >= 255 {
-        return sqrt32_by_digits(x);
+        return sqrt_by_digits(x);
     }
     let g = guess_root(scaled32(b));
-    let q = float_root_digits::root_digits32(float_root_digits::even_digits32(b) as u64, g.root);
-    if q == 0 {
-        return sqrt32_by_digits(x);
-    }
+    let n = float_root_digits::even_digits::<f32>(b as u64);
+    let Some(q) = float_root_digits::root_digits32(n, g.root) else {
+        return sqrt_by_digits(x)
+    };
     // Origin: the exponent is e - 1 + 149, of which 23 are in n * 2^23
-    float_widths::assemble32(false, q as u32, (e + 125) / 2)
+    float_widths::assemble(false, q, (e + 125) / 2)
 }

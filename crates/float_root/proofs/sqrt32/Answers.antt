@@ -1,6 +1,6 @@
--- `float_root::sqrt32` meets its contract: a candidate that `root_digits32` lets pass is the rounded root, and `sqrt32_by_digits` gives the rest. Assumes nothing.
-use mathlib.Core.Path.{◌≡◌, sym, ◌∙◌, subst}
-use Prim.Native.Nat.{ℕ, ◌+◌, ◌/◌, ◌%◌, ◌^◌, ◌<◌}
+-- `float_root::sqrt32` meets its contract: a candidate that `root_digits32` lets pass is the rounded root, and `sqrt_by_digits` gives the rest. Assumes nothing.
+use mathlib.Core.Path.{sym, ◌∙◌, subst}
+use Prim.Native.Nat.{◌+◌, ◌/◌, ◌%◌, ◌^◌}
 use native.Mathlib.Omega.{arith}
 use lib.Dec.{T}
 use lib.Ieee.{binary32, to_bits}
@@ -11,30 +11,24 @@ use Rattle.float_root.proofs.Candidate.{quick_root}
 use Rattle.float_root_digits.proofs.Digits.{doubled}
 use Rattle.float_root.proofs.sqrt32.Goals as goal
 
-some : (q : ℕ) → (q ≡ 0 → ⊥) → 0 < q
-some q h = omega arith
-
 pub returns-then-x : goal.returns-then-x
 returns-then-x c = sqrt_nan binary32 c.args.x (differs_from_itself c.args.x (subst T (sym c.if-x.true) tt))
 
 pub float_to_bits-b : goal.float_to_bits-b
 float_to_bits-b c = nan_not _ c.if-x.false
 
-pub root_digits32-q-requires : goal.root_digits32-q-requires
-root_digits32-q-requires c =
+pub root_digits32-requires : goal.root_digits32-requires
+root_digits32-requires c =
     let p = to_bits binary32 c.args.x in
     let d = doubled (p % 2 ^ 23 + 2 ^ 23) (p / 2 ^ 23 % 2) (omega arith) in
     omega arith
 
-pub overflow_cast-q : goal.overflow_cast-q
-overflow_cast-q c = let r = c.root_digits32-q.ensures (some _ c.if-q-eq0.false) in omega arith
-
-pub assemble32-requires : goal.assemble32-requires
-assemble32-requires c = let r = c.root_digits32-q.ensures (some _ c.if-q-eq0.false) in (omega arith, (λ _. r.0))
+pub assemble-requires : goal.assemble-requires
+assemble-requires c = let r = c.in-Some.ensures in (omega arith, (λ _. r.0))
 
 pub returns : goal.returns
 returns c =
-    let r = c.root_digits32-q.ensures (some c.root_digits32-q.result c.if-q-eq0.false) in
-    c.assemble32.ensures
-    ∙ quick_root binary32 c.args.x (subst T (sym c.well_formed.0.1) tt) c.even_digits32.result c.root_digits32-q.result c.if-e-eq0.false c.if-e-ge255.false
-    c.even_digits32.ensures (r.2, r.3) r.0 r.1
+    let r = c.in-Some.ensures in
+    c.assemble.ensures
+    ∙ quick_root binary32 c.args.x (subst T (sym c.well_formed.0.1) tt) c.even_digits-n.result c.in-Some.q c.if-e-eq0.false c.if-e-ge255.false
+    c.even_digits-n.ensures (r.2, r.3) r.0 r.1

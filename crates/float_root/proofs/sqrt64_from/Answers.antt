@@ -1,7 +1,7 @@
--- `float_root::sqrt64_from` meets its contract: a candidate that `root_digits64` lets pass is the rounded root, and `sqrt64_by_digits` gives the rest. Assumes nothing.
+-- `float_root::sqrt64_from` meets its contract: a candidate that `root_digits64` lets pass is the rounded root, and `sqrt_by_digits` gives the rest. Assumes nothing.
 use mathlib.Core.Path.{◌≡◌, sym, ap, ◌∙◌, subst}
 use mathlib.Core.Bool.{false}
-use Prim.Native.Nat.{ℕ, ◌+◌, ◌/◌, ◌%◌, ◌^◌, ◌<◌}
+use Prim.Native.Nat.{◌+◌, ◌/◌, ◌%◌, ◌^◌}
 use native.Mathlib.Omega.{arith}
 use lib.Dec.{T}
 use lib.Ieee.{binary64, units, to_bits}
@@ -12,17 +12,14 @@ use Rattle.float_root.proofs.Sqrt.{sqrt_nan}
 use Rattle.float_root.proofs.Candidate.{quick_root}
 use Rattle.float_root_digits.proofs.Digits.{doubled}
 use Rattle.float_root.proofs.sqrt64_from.Goals as goal
-use Rattle.float_root.proofs.sqrt64_from.Goals.{Else-q-eq0}
-
-some : (q : ℕ) → (q ≡ 0 → ⊥) → 0 < q
-some q h = omega arith
+use Rattle.float_root.proofs.sqrt64_from.Goals.{In-Some}
 
 -- the candidate that passed
-passed : (c : Else-q-eq0) → units binary64 false c.root_digits64-q.result ((to_bits binary64 c.args.x / 2 ^ 52 + 1021) / 2) ≡ sqrt_of binary64 c.args.x
+passed : (c : In-Some) → units binary64 false c.in-Some.q ((to_bits binary64 c.args.x / 2 ^ 52 + 1021) / 2) ≡ sqrt_of binary64 c.args.x
 passed c =
-    let r = c.root_digits64-q.ensures (some c.root_digits64-q.result c.if-q-eq0.false) in
-    quick_root binary64 c.args.x (subst T (sym c.well_formed.0.1) tt) c.even_digits64.result c.root_digits64-q.result c.if-e-eq0.false c.if-e-ge2047.false
-    c.even_digits64.ensures (r.2, r.3) r.0 r.1
+    let r = c.in-Some.ensures in
+    quick_root binary64 c.args.x (subst T (sym c.well_formed.0.1) tt) c.even_digits-n.result c.in-Some.q c.if-e-eq0.false c.if-e-ge2047.false
+    c.even_digits-n.ensures (r.2, r.3) r.0 r.1
 
 pub returns-then-x : goal.returns-then-x
 returns-then-x c = sqrt_nan binary64 c.args.x (differs_from_itself c.args.x (subst T (sym c.if-x.true) tt))
@@ -30,20 +27,20 @@ returns-then-x c = sqrt_nan binary64 c.args.x (differs_from_itself c.args.x (sub
 pub float_to_bits-b : goal.float_to_bits-b
 float_to_bits-b c = nan_not _ c.if-x.false
 
-pub root_digits64-q-requires : goal.root_digits64-q-requires
-root_digits64-q-requires c =
+pub root_digits64-requires : goal.root_digits64-requires
+root_digits64-requires c =
     let p = to_bits binary64 c.args.x in
     let d = doubled (p % 2 ^ 52 + 2 ^ 52) (p / 2 ^ 52 % 2) (omega arith) in
     omega arith
 
-pub assemble64-requires : goal.assemble64-requires
-assemble64-requires c = let r = c.root_digits64-q.ensures (some _ c.if-q-eq0.false) in (omega arith, (λ _. r.0))
+pub assemble-requires : goal.assemble-requires
+assemble-requires c = let r = c.in-Some.ensures in (omega arith, (λ _. r.0))
 
 pub returns-then-k-eq1022 : goal.returns-then-k-eq1022
-returns-then-k-eq1022 c = c.assemble64.ensures ∙ ap (units binary64 false c.root_digits64-q.result) (sym c.if-k-eq1022.true) ∙ passed (goal.at.returns-then-k-eq1022 c).Else-q-eq0
+returns-then-k-eq1022 c = c.assemble.ensures ∙ ap (units binary64 false c.in-Some.q) (sym c.if-k-eq1022.true) ∙ passed (goal.at.returns-then-k-eq1022 c).In-Some
 
-pub assemble64-requires-2 : goal.assemble64-requires-2
-assemble64-requires-2 c = let r = c.root_digits64-q.ensures (some _ c.if-q-eq0.false) in (omega arith, (λ _. r.0))
+pub assemble-requires-2 : goal.assemble-requires-2
+assemble-requires-2 c = let r = c.in-Some.ensures in (omega arith, (λ _. r.0))
 
 pub returns : goal.returns
-returns c = c.assemble64-2.ensures ∙ passed (goal.at.returns c).Else-q-eq0
+returns c = c.assemble-2.ensures ∙ passed (goal.at.returns c).In-Some
