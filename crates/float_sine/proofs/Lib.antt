@@ -1,5 +1,6 @@
 pub mod Coefficients
 pub mod Rounded
+pub mod Steps
 pub mod Remainder
 pub mod Whole
 pub mod Turns

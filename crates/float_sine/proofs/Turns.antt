@@ -122,27 +122,12 @@ found_both nan k m h = no_number nan k m refl
 found_both (inf s) k m h = no_number (inf s) k m refl
 found_both (fin s n e) k m h = number (fin s n e) k m tt h
 
--- past 2 there is one branch left
-sine_last : (y : Float) (m : ℕ) → (m ≡ 0 → ⊥) → (m ≡ 1 → ⊥) → (m ≡ 2 → ⊥) → neg (C y) ≡ sine_by m y
-unfolding sine_by
-sine_last y zero a b d = absurd (a refl)
-sine_last y (suc zero) a b d = absurd (b refl)
-sine_last y (suc (suc zero)) a b d = absurd (d refl)
-sine_last y (suc (suc (suc m))) a b d = refl
-
-cosine_last : (y : Float) (m : ℕ) → (m ≡ 0 → ⊥) → (m ≡ 1 → ⊥) → (m ≡ 2 → ⊥) → S y ≡ cosine_by m y
-unfolding cosine_by
-cosine_last y zero a b d = absurd (a refl)
-cosine_last y (suc zero) a b d = absurd (b refl)
-cosine_last y (suc (suc zero)) a b d = absurd (d refl)
-cosine_last y (suc (suc (suc m))) a b d = refl
-
 -- ---- the four branches of the code, by m
 pub record Turned (v s c : Float) (m : ℕ) : Type 0 where
   pub at_0 : m ≡ 0 → (s ≡ sin_of v) × (c ≡ cos_of v)
   pub at_1 : m ≡ 1 → (c ≡ sin_of v) × (neg s ≡ cos_of v)
   pub at_2 : m ≡ 2 → (neg s ≡ sin_of v) × (neg c ≡ cos_of v)
-  pub at_3 : (m ≡ 0 → ⊥) → (m ≡ 1 → ⊥) → (m ≡ 2 → ⊥) → (neg c ≡ sin_of v) × (s ≡ cos_of v)
+  pub at_3 : m ≡ 3 → (neg c ≡ sin_of v) × (s ≡ cos_of v)
 
 by_branch : (v y s c : Float) (m : ℕ) → s ≡ S y → c ≡ C y → (sine_by m y ≡ sin_of v) × (cosine_by m y ≡ cos_of v) → Turned v s c m
 unfolding sine_by cosine_by
@@ -150,7 +135,7 @@ by_branch v y s c m p q b = record {
   at_0 = λ e. (p ∙ ap (λ (m : ℕ). sine_by m y) (sym e) ∙ b.0, q ∙ ap (λ (m : ℕ). cosine_by m y) (sym e) ∙ b.1);
   at_1 = λ e. (q ∙ ap (λ (m : ℕ). sine_by m y) (sym e) ∙ b.0, ap neg p ∙ ap (λ (m : ℕ). cosine_by m y) (sym e) ∙ b.1);
   at_2 = λ e. (ap neg p ∙ ap (λ (m : ℕ). sine_by m y) (sym e) ∙ b.0, ap neg q ∙ ap (λ (m : ℕ). cosine_by m y) (sym e) ∙ b.1);
-  at_3 = λ d e f. (ap neg q ∙ sine_last y m d e f ∙ b.0, p ∙ cosine_last y m d e f ∙ b.1);
+  at_3 = λ e. (ap neg q ∙ ap (λ (m : ℕ). sine_by m y) (sym e) ∙ b.0, p ∙ ap (λ (m : ℕ). cosine_by m y) (sym e) ∙ b.1);
 }
 
 -- r is the remainder, k and m what is found of r ÷ (pi/2), s and c the sums of y = r − k·(pi/2)

@@ -1,4 +1,5 @@
 pub mod Pi
+pub mod Quarter
 pub mod Series
 pub mod Sine
 pub mod Meaning

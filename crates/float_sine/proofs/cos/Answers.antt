@@ -2,4 +2,4 @@
 use Rattle.float_sine.proofs.cos.Goals as goal
 
 pub returns : goal.returns
-returns c = c.sin_cos-t.ensures.1
+returns c = c.sin_cos.ensures.1

@@ -1,5 +1,5 @@
 -- `float_sine::rem_two_pi` meets its contract: a value inside ±2·pi is its own remainder. Assumes nothing.
-use Rattle.std.proofs.Common.{T, sym, refl, subst}
+use Rattle.std.proofs.Common.{T, sym, subst}
 use lib.Ieee.{neg, lt}
 use Rattle.float_sine.specs.Pi.{two_pi}
 use Rattle.float_sine.specs.Sine.{remainder}
@@ -13,4 +13,4 @@ returns-then-v c =
 
 pub returns : goal.returns
 unfolding remainder
-returns c = c.rem64.ensures
+returns c = c.rem.ensures

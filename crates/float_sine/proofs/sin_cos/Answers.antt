@@ -1,23 +1,31 @@
 -- `float_sine::sin_cos` meets its contract: the steps are the definition's, and k mod 4 chooses the same branch. Assumes nothing.
+use Rattle.std.proofs.Common.{ap, ◌∙◌}
+use lib.Ieee.{binary64, sub, mul}
+use Rattle.float_sine.specs.Pi.{half_pi}
+use Rattle.float_sine.specs.Quarter.{number_of}
+use Rattle.float_sine.specs.Series.{sum_of}
 use Rattle.float_sine.specs.Sine.{S, C}
+use Rattle.float_sine.proofs.Coefficients.{tables}
 use Rattle.float_sine.proofs.Turns.{Turned, turned}
 use Rattle.float_sine.proofs.sin_cos.Goals as goal
-use Rattle.float_sine.proofs.sin_cos.Goals.{After-cosine_sum-c}
+use Rattle.float_sine.proofs.sin_cos.Goals.{After-sum-c}
 
-at : (c : After-cosine_sum-c) → Turned c.args.v c.sine_sum-s.result c.cosine_sum-c.result c.turn_of-t.result.m
+at : (c : After-sum-c) → Turned c.args.v (mul binary64 (sub binary64 c.rem_two_pi-r.result (mul binary64 c.turn_of-t.result.k half_pi)) c.sum.result) c.sum-c.result (number_of c.turn_of-t.result.quarter)
 unfolding S C
 at c =
-    turned c.args.v c.rem_two_pi-r.result c.turn_of-t.result.k c.sine_sum-s.result c.cosine_sum-c.result c.turn_of-t.result.m
-    c.rem_two_pi-r.ensures c.turn_of-t.ensures c.sine_sum-s.ensures c.cosine_sum-c.ensures
+    let y = sub binary64 c.rem_two_pi-r.result (mul binary64 c.turn_of-t.result.k half_pi) in
+    turned c.args.v c.rem_two_pi-r.result c.turn_of-t.result.k (mul binary64 y c.sum.result) c.sum-c.result (number_of c.turn_of-t.result.quarter)
+    c.rem_two_pi-r.ensures c.turn_of-t.ensures
+    (ap (mul binary64 y) (c.sum.ensures ∙ ap (sum_of (mul binary64 y y)) tables.0)) (c.sum-c.ensures ∙ ap (sum_of (mul binary64 y y)) tables.1)
 
-pub returns-then-m-eq0 : goal.returns-then-m-eq0
-returns-then-m-eq0 c = (at (goal.at.returns-then-m-eq0 c).After-cosine_sum-c).at_0 c.if-m-eq0.true
+pub returns-in-First : goal.returns-in-First
+returns-in-First c = (at (goal.at.returns-in-First c).After-sum-c).at_0 (ap number_of c.in-First.is)
 
-pub returns-then-m-eq1 : goal.returns-then-m-eq1
-returns-then-m-eq1 c = (at (goal.at.returns-then-m-eq1 c).After-cosine_sum-c).at_1 c.if-m-eq1.true
+pub returns-in-Second : goal.returns-in-Second
+returns-in-Second c = (at (goal.at.returns-in-Second c).After-sum-c).at_1 (ap number_of c.in-Second.is)
 
-pub returns-then-m-eq2 : goal.returns-then-m-eq2
-returns-then-m-eq2 c = (at (goal.at.returns-then-m-eq2 c).After-cosine_sum-c).at_2 c.if-m-eq2.true
+pub returns-in-Third : goal.returns-in-Third
+returns-in-Third c = (at (goal.at.returns-in-Third c).After-sum-c).at_2 (ap number_of c.in-Third.is)
 
-pub returns : goal.returns
-returns c = (at (goal.at.returns c).After-cosine_sum-c).at_3 c.if-m-eq0.false c.if-m-eq1.false c.if-m-eq2.false
+pub returns-in-Fourth : goal.returns-in-Fourth
+returns-in-Fourth c = (at (goal.at.returns-in-Fourth c).After-sum-c).at_3 (ap number_of c.in-Fourth.is)
