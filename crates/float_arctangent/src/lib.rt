@@ -2,48 +2,21 @@
 #![tactic(auto)]
 
 ghost use Rattle.std.specs.Prelude.{◌≡◌};
-ghost use Rattle.float_sine.specs.Series.{sum_of};
-ghost use Rattle.float_arctangent.specs.Arctangent.{arctangent_coefficients, halved_of, atan_of, ratio_of, first_quadrant_of, with_sign_of_x, with_sign_of_y, atan2_of};
+ghost use Rattle.float_arctangent.specs.Arctangent.{halved_of, atan_of, ratio_of, first_quadrant_of, with_sign_of_x, with_sign_of_y, atan2_of};
 
 use float_root::Guess;
 
-// The coefficients of A, (-1)^i / (2i + 1), each quotient rounded once.
-// Origin: document 01, A: 1 / 1, 3ff0000000000000.
-const A0: f64 = 1.0;
-
-// Origin: document 01, A: -1 / 3, bfd5555555555555.
-const A1: f64 = -0.3333333333333333;
-
-// Origin: document 01, A: 1 / 5, 3fc999999999999a.
-const A2: f64 = 0.2;
-
-// Origin: document 01, A: -1 / 7, bfc2492492492492.
-const A3: f64 = -0.14285714285714285;
-
-// Origin: document 01, A: 1 / 9, 3fbc71c71c71c71c.
-const A4: f64 = 0.1111111111111111;
-
-// Origin: document 01, A: -1 / 11, bfb745d1745d1746.
-const A5: f64 = -0.09090909090909091;
-
-// Origin: document 01, A: 1 / 13, 3fb3b13b13b13b14.
-const A6: f64 = 0.07692307692307693;
-
-// Origin: document 01, A: -1 / 15, bfb1111111111111.
-const A7: f64 = -0.06666666666666667;
-
-// The sum of A's coefficients.
-fn arctangent_sum(z: f64) -> f64
-    ensures { result ≡ sum_of z arctangent_coefficients }
-{
-    let a6 = A6 + z * A7;
-    let a5 = A5 + z * a6;
-    let a4 = A4 + z * a5;
-    let a3 = A3 + z * a4;
-    let a2 = A2 + z * a3;
-    let a1 = A1 + z * a2;
-    A0 + z * a1
-}
+// The coefficients of A, (-1)^i / (2i + 1), each quotient rounded once, with its pattern beside it. Origin: document 01, A.
+const ARCTANGENTS: [f64; 8] = [
+    1.0, // 1 / 1, 3ff0000000000000
+    -0.3333333333333333, // -1 / 3, bfd5555555555555
+    0.2, // 1 / 5, 3fc999999999999a
+    -0.14285714285714285, // -1 / 7, bfc2492492492492
+    0.1111111111111111, // 1 / 9, 3fbc71c71c71c71c
+    -0.09090909090909091, // -1 / 11, bfb745d1745d1746
+    0.07692307692307693, // 1 / 13, 3fb3b13b13b13b14
+    -0.06666666666666667, // -1 / 15, bfb1111111111111
+];
 
 // A guess at the root of A's second step, one over the cosine of half the angle, from c, near the cosine of the angle.
 // Origin: the polynomials nearest to the root and to half of its inverse for a c from cos(pi / 4) to 1, within 2e-10, in d, the distance from the middle; any numbers serve, since the root is checked.
@@ -88,7 +61,7 @@ pub fn atan(q: f64) -> f64
     // the slope is half of the cosine
     let c = g.slope * 2.0;
     let h = halved(halved(halved(q, g), second_guess(c)), third_guess(c));
-    8.0 * (h * arctangent_sum(h * h))
+    8.0 * (h * float_sine::sum(&ARCTANGENTS, h * h))
 }
 
 // y ÷ x, of two zeros 0.
@@ -115,7 +88,7 @@ fn first_quadrant(y: f64, x: f64) -> f64
 fn with_sign_of_x(x: f64, a: f64) -> f64
     ensures { result ≡ with_sign_of_x x a }
 {
-    if float_order::sign_bit64(x) {
+    if float_order::sign_bit(x) {
         return float_sine::PI64 - a;
     }
     a
@@ -125,7 +98,7 @@ fn with_sign_of_x(x: f64, a: f64) -> f64
 fn with_sign_of_y(y: f64, b: f64) -> f64
     ensures { result ≡ with_sign_of_y y b }
 {
-    if float_order::sign_bit64(y) {
+    if float_order::sign_bit(y) {
         return -b;
     }
     b
@@ -135,6 +108,6 @@ fn with_sign_of_y(y: f64, b: f64) -> f64
 pub fn atan2(y: f64, x: f64) -> f64
     ensures { result ≡ atan2_of y x }
 {
-    let a = first_quadrant(float_order::abs64(y), float_order::abs64(x));
+    let a = first_quadrant(float_order::abs(y), float_order::abs(x));
     with_sign_of_y(y, with_sign_of_x(x, a))
 }

@@ -5,10 +5,10 @@ use Rattle.lists.proofs.Tests.{cond_yes, cond_no}
 use Rattle.float_arctangent.specs.Arctangent.{with_sign_of_y}
 use Rattle.float_arctangent.proofs.with_sign_of_y.Goals as goal
 
-pub returns-then-sign_bit64 : goal.returns-then-sign_bit64
+pub returns-then-sign_bit : goal.returns-then-sign_bit
 unfolding with_sign_of_y
-returns-then-sign_bit64 c = sym (cond_yes (neg c.args.b) c.args.b (sym c.sign_bit64.ensures ∙ c.if-sign_bit64.true))
+returns-then-sign_bit c = sym (cond_yes (neg c.args.b) c.args.b (sym c.sign_bit.ensures ∙ c.if-sign_bit.true))
 
 pub returns : goal.returns
 unfolding with_sign_of_y
-returns c = sym (cond_no (neg c.args.b) c.args.b (sym c.sign_bit64.ensures ∙ c.if-sign_bit64.false))
+returns c = sym (cond_no (neg c.args.b) c.args.b (sym c.sign_bit.ensures ∙ c.if-sign_bit.false))
