@@ -1,14 +1,17 @@
 -- Laws of insertion: what stores in an array do, and that an insertion opens the place of its spot. Assumes nothing.
-use Prim.Native.Nat.{ℕ, suc, ◌+◌, ◌-◌, ◌≤◌, ◌<◌, min}
-use mathlib.Core.Path.{◌≡◌, refl, sym, ap, ◌∙◌}
+use Prim.Native.Nat.{ℕ, suc, ◌+◌, ◌-◌, ◌≤◌, ◌<◌}
+use mathlib.Core.Path.{◌≡◌, refl, sym, ap, ap₂, ◌∙◌}
 use mathlib.Core.Bool.{Bool, true, false, cond, ◌&&◌}
 use mathlib.Core.List.{List, [], ◌∷◌, ◌++◌, foldl}
-use native.Mathlib.Decide.{dec_le}
-use native.Mathlib.Nat.{add-zero, min-eq_left, min-eq_right}
+use native.Mathlib.Nat.{add-zero}
 use native.Mathlib.Numerals.{add-one}
 use native.Mathlib.Omega.{arith}
-use lib.ListN.{replicate, length, get_or, set, take, drop, length-append, length-drop, drop_of_length-le}
-use lib.Seq.{drop-cons, get_or-drop, get_or_at, paste, paste-suc, length_paste_head, length-take-le, take_at, drop_at, take-add, take-suc, drop-drop, take_all}
+use lib.ListN.{replicate, length, get_or, take, drop, length-append, length-drop, drop_of_length-le}
+use borrow.Rule.Slice.PartMut.{put_mid}
+use Rattle.std.proofs.Common.{append-nil}
+use Rattle.std.proofs.lemmas.List.{take-take, drop-take}
+use Rattle.std.proofs.lemmas.Slice.{put_mid-paste}
+use lib.Seq.{drop-cons, get_or_at, length-take-le, take_at, drop_at, take-add, take-suc, drop-drop, take_all}
 use lib.Ieee.{nan, lt}
 use Rattle.lists.specs.Lists.{position, every, filled}
 use Rattle.lists.proofs.Tests.{and_comm, and_assoc, and_true}
@@ -22,21 +25,35 @@ use Rattle.angle_sort.specs.Inner.Front.{place_of, opened_of, inserted_in, sorte
 abbrev pub no_spot : Spot
 no_spot = record { angle = nan; number = 0 }
 
--- ---- a place is opened, one store a turn: s and what stood from p on, over what stands from p on
+-- ---- the part from p up to q turned by one place opens place p for spot q
 
-module _ (a : List Spot) (p : ℕ) (s : Spot) (q : ℕ) (h : p + q < length a) where
-  moved_long : q < length (s ∷ drop p a)
-  moved_long = omega (arith, length-drop p a)
+module _ (a : List Spot) (p q : ℕ) (h : p ≤ q) (m : q < length a) where
+  abbrev turned_part : List Spot
+  turned_part = take (q + 1 - p) (drop p a)
 
-  pub moved_store : set (paste a p (s ∷ drop p a) q) (p + q) (get_or (s ∷ drop p a) q no_spot) ≡ paste a p (s ∷ drop p a) (q + 1)
-  moved_store = rw add-one (paste-suc a p (s ∷ drop p a) q no_spot h moved_long)
+  pub long_part : length turned_part ≡ q + 1 - p
+  long_part = length-take-le (q + 1 - p) (drop p a) (omega (arith, length-drop p a))
 
-  -- what the store writes over is what the next one writes
-  pub moved_read : get_or (paste a p (s ∷ drop p a) q) (p + q) no_spot ≡ get_or (s ∷ drop p a) (q + 1) no_spot
-  moved_read =
-      rw (drop-cons a (p + q) no_spot h, add-one, get_or-drop)
-      (get_or_at (take p a ++ take q (s ∷ drop p a)) (get_or a (p + q) no_spot) (drop (suc (p + q)) a) no_spot (p + q)
-      (length_paste_head a p (s ∷ drop p a) q (omega arith) (omega (arith, moved_long))))
+  turned_first : drop (q - p) turned_part ≡ get_or a q no_spot ∷ []
+  turned_first =
+      let e : q + 1 - p ≡ q - p + 1 = omega arith in
+      let f : p + (q - p) ≡ q = omega arith in
+      rw (e, drop-take (q - p) 1 (drop p a), drop-drop (q - p) p a, f, drop-cons a q no_spot m) refl
+
+  turned_rest : take (q - p) turned_part ≡ take (q - p) (drop p a)
+  turned_rest = take-take (q - p) (q + 1 - p) (drop p a) (omega arith)
+
+  pub turned_opened : {t : List Spot} → t ≡ drop (length turned_part - 1) turned_part ++ take (length turned_part - 1) turned_part
+      → put_mid p (q + 1 - p) a t ≡ opened_of a p q (get_or a q no_spot)
+  turned_opened e =
+      let y : Spot = get_or a q no_spot in
+      let n : length turned_part - 1 ≡ q - p = omega (arith, long_part) in
+      let k : q + 1 - p ≡ suc (q - p) = omega arith in
+      let f : p + suc (q - p) ≡ q + 1 = omega arith in
+      let z : _ ≡ y ∷ take (q - p) (drop p a) = rw n at e ∙ ap₂ (λ (u v : List Spot). u ++ v) turned_first turned_rest in
+      let long : suc (q - p) ≡ length (y ∷ take (q - p) (drop p a)) = ap suc (sym (length-take-le (q - p) (drop p a) (omega (arith, length-drop p a)))) in
+      put_mid-paste p (q + 1 - p) a _ (y ∷ take (q - p) (drop p a)) (suc (q - p)) z (sym k) long
+      ∙ rw (f, k, take-take (q - p) (q - p) (drop p a) (omega arith)) refl
 
 -- ---- insertion
 
@@ -150,17 +167,10 @@ sorted_more a q h =
     let t : sorted_of (take (q + 1) a) ≡ insert_of m (get_or a q no_spot) = rw (add-one, take-suc a q no_spot) (sorted_snoc (take q a) (get_or a q no_spot)) in
     rw (take_at m (drop q a) q g, d, t) refl
 
--- more places than the array has are all that it has
-pub sorted_capped : (a : List Spot) (n k : ℕ) → length a ≡ k → sorted_in a (min n k) ≡ sorted_in a n
+-- as many places as the list has are all that it has
+pub sorted_all : (a : List Spot) (q : ℕ) → length a ≤ q → sorted_in a q ≡ sorted_of a
 unfolding sorted_in
-sorted_capped a n k h = elim (dec_le n k) [ yes g ↦ ap (sorted_in a) (min-eq_left g) | no g ↦ past (omega arith) ]
-  where
-    past : k ≤ n → sorted_in a (min n k) ≡ sorted_in a n
-    past g =
-        let e : min n k ≡ k = min-eq_right g in
-        let all : length a ≤ n = omega arith in
-        let same : length a ≤ k = omega arith in
-        rw (e, take_all n a all, take_all k a same, drop_of_length-le a all, drop_of_length-le a same) refl
+sorted_all a q h = rw (take_all q a h, drop_of_length-le a h, append-nil) refl
 
 -- a list that fills an array is sorted in its places
 pub sorted_filled : (k : ℕ) (z : Spot) (l : List Spot) (n : ℕ) → length l ≡ n → sorted_in (filled k z l) n ≡ filled k z (sorted_of l)

@@ -3,3 +3,4 @@ pub mod Angles
 pub mod FloatOrder
 pub mod Equals
 pub mod Meaning
+pub mod Found

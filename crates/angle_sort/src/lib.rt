@@ -1,8 +1,9 @@
 // A stable insertion sort by angle.
 #![tactic(auto)]
 
-ghost use Rattle.std.specs.Prelude.{◌≡◌, min};
-ghost use Rattle.angle_sort.specs.Inner.Front.{sorted_in};
+ghost use Rattle.std.specs.Prelude.{◌≡◌, ◌≤◌, length};
+ghost use Rattle.angle_sort.specs.Order.{sorted_of};
+ghost use Rattle.angle_sort.specs.Inner.Front.{place_of};
 
 // An angle and the number of what stands at it.
 #[derive(Clone, Copy)]
@@ -11,39 +12,23 @@ pub struct Spot {
     pub number: usize,
 }
 
-// Origin: document 01, 40 positions and 14 imaginary points; a fan of coplanar points starts at one of them and sorts the others. A ring has no more than 40.
-const MAX_SPOTS: usize = 53;
-
-// The lesser of n and 53.
-fn capped(n: usize) -> usize
-    ensures { result ≡ min n 53 }
+// How many of the sorted spots stand before the first whose angle is above the given one.
+fn place(sorted: &[Spot], angle: f64) -> usize
+    ensures is { result ≡ place_of angle sorted.now }
+    ensures within { result ≤ length sorted.now }
 {
-    if n < MAX_SPOTS { n } else { MAX_SPOTS }
+    let above = sorted.iter().position(|s| angle < s.angle);
+    above.unwrap_or(sorted.len())
 }
 
-// The first n spots in ascending order of their angles, equals in the order in which they stand; the others stay.
-// Spot q goes before the first of those sorted so far whose angle is above its own, and what stood from there up to q one place on.
-// The array is sorted where it stands, by loops in one function: one of spots cannot be lent, and handed on by value it would be copied for each spot.
-pub fn sorted(a: [Spot; 53], n: usize) -> [Spot; 53]
-    ensures { result ≡ sorted_in a n }
+// The spots in ascending order of their angles, equals in the order in which they stand, sorted where they lie. std's stable sort asks for memory.
+// Spot q goes to its place among those sorted so far, and what stood from there up to q one place on.
+pub fn sort(spots: &mut [Spot])
+    ensures { spots.new ≡ sorted_of spots.old }
 {
-    let m = capped(n);
-    let mut b = a;
-    'spots: for q in 0..m {
-        let mut y = b[q];
-        let angle = y.angle;
-        let mut p: usize = 0;
-        'place: while p < q {
-            if angle < b[p].angle {
-                break 'place;
-            }
-            p += 1;
-        }
-        'moved: for r in 0..q + 1 - p {
-            let z = b[p + r];
-            b[p + r] = y;
-            y = z;
-        }
+    for q in 0..spots.len() {
+        let angle = spots[q].angle;
+        let p = place(&spots[..q], angle);
+        spots[p..q + 1].rotate_right(1);
     }
-    b
 }
