@@ -1,30 +1,24 @@
 -- Laws of a triple that is skipped before its normal is scaled: where a point stands well over its plane, and another well under it, they do so by the scaled normal too (crates/layout_margin). Assumes nothing.
-use Prim.Native.Nat.{ℕ, ◌+◌, ◌*◌, ◌^◌, ◌≤◌, ◌<◌}
+use Prim.Native.Nat.{ℕ, ◌*◌, ◌^◌, ◌≤◌, ◌<◌}
 use mathlib.Core.Path.{◌≡◌, refl, sym, ap, ◌∙◌, subst}
 use mathlib.Core.Bool.{Bool, true, false, true≢false, ◌&&◌, ◌||◌, not}
-use mathlib.Core.List.{List}
-use native.Mathlib.Omega.{arith}
 use borrow.Author.Tests.{not-true, ne_eqb}
 use lib.Dec.{T, lit≤, lit<}
-use lib.ListN.{get_or}
-use lib.Ieee.{Float, nan, binary64, neg, lt, of_bits}
-use Rattle.lists.specs.Lists.{part}
-use Rattle.lists.proofs.Parts.{get_d_part}
+use lib.ListN.{length}
+use lib.Ieee.{Float, binary64, neg, lt, of_bits}
 use Rattle.lists.proofs.Tests.{and_left, and_right}
-use Rattle.vector.specs.Vector.{Vector, points_in, dot_of, over_of, length_of}
+use Rattle.vector.specs.Vector.{Vector, Points, dot_of, over_of, length_of}
 use Rattle.float_bounds.proofs.Units.{Val, units_of}
 use Rattle.float_bounds.proofs.Size.{Mag}
 use Rattle.float_bounds.proofs.Compare.{test_mag}
 use Rattle.layout_margin.proofs.Scaled.{L}
 use Rattle.layout_margin.proofs.Heights.{Three}
 use Rattle.layout_margin.proofs.Apart.{well_over, well_under}
-use Rattle.layout_faces.specs.Faces.{least_normal, eps, others, raw_normal, height, all_below, all_above, is_other}
-use Rattle.layout_faces.specs.Inner.Steps.{height_in, plane_of, sides_of, turned_by, face_of}
-use Rattle.layout_faces.specs.Inner.Margin.{largest, margin, NearIn, level_in}
+use Rattle.layout_faces.specs.Faces.{Plane, least_normal, eps, point, others, raw_normal, height, plane_through, all_below, all_above, is_other}
+use Rattle.layout_faces.specs.Inner.Steps.{height_of, sides_of, turned_by, face_of}
+use Rattle.layout_faces.specs.Inner.Margin.{largest, margin, Near, NearIn, level_of}
 use Rattle.layout_faces.specs.declared.Face.TheVariants.{Skip}
-use Rattle.layout_faces.proofs.Reading.{height_in_lem}
 use Rattle.layout_faces.proofs.Heights.{every_one}
-use Rattle.layout_faces.proofs.Faces.{face_thin, face_placed}
 
 -- ---- what a loop has found
 
@@ -76,86 +70,82 @@ eps_short : units_of binary64 eps < 2 ^ 1051
 unfolding of_bits
 eps_short = lit< tt
 
--- ---- a triple of the first n points
+-- ---- the points, by a normal before it is scaled and the distance that goes with it
 
-module _ (n : ℕ) (flat : List Float) where
-  -- the first n points, by a normal before it is scaled and the distance that goes with it
-  module _ (raw : Vector) (d : Float) where
+module _ (pts : Points) where
+  module _ (f : Plane) where
     abbrev pub Over : Type 0
-    Over = (p : ℕ) × (p < n) × (lt margin (height_in flat raw d p) ≡ true)
+    Over = (p : ℕ) × (p < length pts) × (lt margin (height_of f (point pts p)) ≡ true)
 
     abbrev pub Under : Type 0
-    Under = (p : ℕ) × (p < n) × (lt (height_in flat raw d p) (neg margin) ≡ true)
+    Under = (p : ℕ) × (p < length pts) × (lt (height_of f (point pts p)) (neg margin) ≡ true)
 
-  near_three : NearIn n flat → (p : ℕ) → p < n → Three (2 * L) (part 3 flat p)
+  near_three : NearIn pts → (p : ℕ) → p < length pts → Three (2 * L) (point pts p)
   unfolding NearIn
-  near_three c p h = record { first = at 0 (omega arith); second = at 1 (omega arith); third = at 2 (omega arith) }
+  near_three c p h = let g = c p h in record { first = at g.first; second = at g.second; third = at g.third }
     where
-      at : (e : ℕ) → e < 3 → Mag binary64 (get_or (part 3 flat p) e nan) (2 * L)
-      at e l =
-          let g = c (p * 3 + e) (omega arith) in
-          subst (λ (v : Float). Mag binary64 v (2 * L)) (sym (get_d_part 3 flat p e nan l)) (test_mag (truth g.held) (truth g.most) largest_val)
+      at : {v : Float} → Near v → Mag binary64 v (2 * L)
+      at g = test_mag (truth g.held) (truth g.most) largest_val
 
-  module _ (i j k : ℕ) (hi : i < n) (hj : j < n) (hk : k < n) where
+  module _ (i j k : ℕ) (hi : i < length pts) (hj : j < length pts) (hk : k < length pts) where
     abbrev raw : Vector
-    raw = raw_normal (part 3 flat i) (part 3 flat j) (part 3 flat k)
+    raw = raw_normal (point pts i) (point pts j) (point pts k)
 
-    abbrev unit : Vector
-    unit = over_of raw (length_of raw)
+    abbrev before : Plane
+    before = record { nrm = raw; d = dot_of raw (point pts i) }
 
-    abbrev d : Float
-    d = dot_of raw (part 3 flat i)
-
-    abbrev e : Float
-    e = dot_of unit (part 3 flat i)
+    abbrev scaled : Plane
+    scaled = let u = over_of raw (length_of raw) in record { nrm = u; d = dot_of u (point pts i) }
 
     -- a point that is not level is none of the triple
-    off_triple : (f : Float → Bool) → (p : ℕ) → f (height_in flat raw d i) ≡ false → f (height_in flat raw d j) ≡ false → f (height_in flat raw d k) ≡ false → f (height_in flat raw d p) ≡ true → is_other i j k p ≡ true
-    off_triple f p a b c t = rw (ne_eqb p i (none i a), ne_eqb p j (none j b), ne_eqb p k (none k c)) refl
+    off_triple : (g : Float → Bool) → (p : ℕ) → g (height_of before (point pts i)) ≡ false → g (height_of before (point pts j)) ≡ false → g (height_of before (point pts k)) ≡ false → g (height_of before (point pts p)) ≡ true → is_other i j k p ≡ true
+    off_triple g p a b c t = rw (ne_eqb p i (none i a), ne_eqb p j (none j b), ne_eqb p k (none k c)) refl
       where
-        none : (q : ℕ) → f (height_in flat raw d q) ≡ false → p ≡ q → ⊥
-        none q g s = let z : true ≡ false = sym t ∙ ap (λ (x : ℕ). f (height_in flat raw d x)) s ∙ g in true≢false z
+        none : (q : ℕ) → g (height_of before (point pts q)) ≡ false → p ≡ q → ⊥
+        none q h s = let z : true ≡ false = sym t ∙ ap (λ (x : ℕ). g (height_of before (point pts x))) s ∙ h in true≢false z
 
-    module _ (c : NearIn n flat) (long : lt (length_of raw) least_normal ≡ false) (p : ℕ) (hp : p < n) where
-      over_stays : lt margin (height_in flat raw d p) ≡ true → lt eps (height_in flat unit e p) ≡ true
-      unfolding height_in raw_normal
+    module _ (c : NearIn pts) (long : lt (length_of raw) least_normal ≡ false) (p : ℕ) (hp : p < length pts) where
+      over_stays : lt margin (height_of before (point pts p)) ≡ true → lt eps (height_of scaled (point pts p)) ≡ true
+      unfolding raw_normal
       over_stays h =
-          true_of (lt eps (height_in flat unit e p))
+          true_of (lt eps (height_of scaled (point pts p)))
           (well_over (near_three c i hi) (near_three c j hj) (near_three c k hk) (near_three c p hp) margin_val normal_val normal_long eps_val eps_short (untrue (lt (length_of raw) least_normal) long) (truth h))
 
-      under_stays : lt (height_in flat raw d p) (neg margin) ≡ true → lt (height_in flat unit e p) (neg eps) ≡ true
-      unfolding height_in raw_normal
+      under_stays : lt (height_of before (point pts p)) (neg margin) ≡ true → lt (height_of scaled (point pts p)) (neg eps) ≡ true
+      unfolding raw_normal
       under_stays h =
-          true_of (lt (height_in flat unit e p) (neg eps))
+          true_of (lt (height_of scaled (point pts p)) (neg eps))
           (well_under (near_three c i hi) (near_three c j hj) (near_three c k hk) (near_three c p hp) margin_val normal_val normal_long eps_val eps_short (untrue (lt (length_of raw) least_normal) long) (truth h))
 
-    -- no face, by the normal r before it is scaled and the distance y that goes with it
-    abbrev Skips : Vector → Float → Type 0
-    Skips r y = NearIn n flat → Over r y → Under r y → level_in flat r y i ≡ true → level_in flat r y j ≡ true → level_in flat r y k ≡ true → face_of (points_in n flat) i j k ≡ Skip
+    -- no face, by the plane before its normal is scaled
+    abbrev Skips : Plane → Type 0
+    Skips f = NearIn pts → Over f → Under f → level_of f (point pts i) ≡ true → level_of f (point pts j) ≡ true → level_of f (point pts k) ≡ true → face_of pts i j k ≡ Skip
 
-    skips : Skips raw d
-    unfolding level_in sides_of all_below all_above turned_by others
+    skips : Skips before
+    unfolding level_of sides_of all_below all_above turned_by others face_of plane_through height
     skips c over under a b g = by (lt (length_of raw) least_normal) refl
       where
-        lower : (q : ℕ) → level_in flat raw d q ≡ true → lt margin (height_in flat raw d q) ≡ false
-        lower q h = not-true _ (and_left (not (lt margin (height_in flat raw d q))) (not (lt (height_in flat raw d q) (neg margin))) h)
+        lower : (q : ℕ) → level_of before (point pts q) ≡ true → lt margin (height_of before (point pts q)) ≡ false
+        lower q h = not-true _ (and_left (not (lt margin (height_of before (point pts q)))) (not (lt (height_of before (point pts q)) (neg margin))) h)
 
-        upper : (q : ℕ) → level_in flat raw d q ≡ true → lt (height_in flat raw d q) (neg margin) ≡ false
-        upper q h = not-true _ (and_right (not (lt margin (height_in flat raw d q))) (not (lt (height_in flat raw d q) (neg margin))) h)
+        upper : (q : ℕ) → level_of before (point pts q) ≡ true → lt (height_of before (point pts q)) (neg margin) ≡ false
+        upper q h = not-true _ (and_right (not (lt margin (height_of before (point pts q)))) (not (lt (height_of before (point pts q)) (neg margin))) h)
 
-        by : (t : Bool) → lt (length_of raw) least_normal ≡ t → face_of (points_in n flat) i j k ≡ Skip
-        by true h = face_thin n flat i j k hi hj hk h
+        by : (t : Bool) → lt (length_of raw) least_normal ≡ t → face_of pts i j k ≡ Skip
+        by true h = rw h refl
         by false h =
-            let f = plane_of unit e in
             let p = over.0 in
             let q = under.0 in
-            let x : not (lt eps (height (points_in n flat) f p)) ≡ false = rw (height_in_lem n flat unit e p over.1, over_stays c h p over.1 over.2) refl in
-            let y : not (lt (height (points_in n flat) f q) (neg eps)) ≡ false = rw (height_in_lem n flat unit e q under.1, under_stays c h q under.1 under.2) refl in
-            let below : all_below (points_in n flat) f (others n i j k) ≡ false =
-            every_one (λ r. not (lt eps (height (points_in n flat) f r))) (is_other i j k) p n over.1 (off_triple (λ v. lt margin v) p (lower i a) (lower j b) (lower k g) over.2) x in
-            let above : all_above (points_in n flat) f (others n i j k) ≡ false =
-            every_one (λ r. not (lt (height (points_in n flat) f r) (neg eps))) (is_other i j k) q n under.1 (off_triple (λ v. lt v (neg margin)) q (upper i a) (upper j b) (upper k g) under.2) y in
-            face_placed n flat i j k hi hj hk h ∙ rw (below, above) refl
+            let x : not (lt eps (height pts scaled p)) ≡ false = rw (over_stays c h p over.1 over.2) refl in
+            let y : not (lt (height pts scaled q) (neg eps)) ≡ false = rw (under_stays c h q under.1 under.2) refl in
+            let below : all_below pts scaled (others (length pts) i j k) ≡ false =
+            every_one (λ r. not (lt eps (height pts scaled r))) (is_other i j k) p (length pts) over.1 (off_triple (λ v. lt margin v) p (lower i a) (lower j b) (lower k g) over.2) x in
+            let above : all_above pts scaled (others (length pts) i j k) ≡ false =
+            every_one (λ r. not (lt (height pts scaled r) (neg eps))) (is_other i j k) q (length pts) under.1 (off_triple (λ v. lt v (neg margin)) q (upper i a) (upper j b) (upper k g) under.2) y in
+            rw (h, below, above) refl
 
-    pub apart_skip : (r : Vector) (y : Float) → r ≡ raw → y ≡ dot_of r (part 3 flat i) → Skips r y
-    apart_skip r y er ey = subst (λ (v : Vector). (w : Float) → w ≡ dot_of v (part 3 flat i) → Skips v w) (sym er) (λ w ew. subst (λ (u : Float). Skips raw u) (sym ew) skips) y ey
+    pub apart_skip : (r : Vector) {e : Float} → r ≡ raw → e ≡ dot_of r (point pts i) → Skips (record { nrm = r; d = e })
+    apart_skip r er ee = subst Skips (sym (same er ee)) skips
+      where
+        same : {r : Vector} {e : Float} → r ≡ raw → e ≡ dot_of r (point pts i) → ◌≡◌ {A = Plane} (record { nrm = r; d = e }) before
+        same er ee = cc

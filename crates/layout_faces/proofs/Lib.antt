@@ -1,4 +1,3 @@
-pub mod Reading
 pub mod Heights
-pub mod Faces
 pub mod Apart
+pub mod Faces

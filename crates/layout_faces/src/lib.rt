@@ -1,13 +1,10 @@
 // The tests of a triple of points for a face of the hull, up to the distance of its plane.
-// Lengths of arrays: 40 speakers (document 01, refusal 2) and 14 imaginary points (vbap.rs line 60) are 54 points, of three numbers each: 162.
 #![tactic(auto)]
 
-ghost use Rattle.std.specs.Prelude.{◌≡◌, true, ◌≤◌, ◌<◌};
-ghost use Rattle.lists.specs.Lists.{part};
-ghost use Rattle.vector.specs.Vector.{points_in};
-ghost use Rattle.layout_faces.specs.Faces.{is_other, others, raw_normal};
-ghost use Rattle.layout_faces.specs.Inner.Steps.{height_in, beside_of, sides_of, facing, face_of};
-ghost use Rattle.layout_faces.specs.Inner.Margin.{Near, NearIn, level_in};
+ghost use Rattle.std.specs.Prelude.{◌≡◌, true, length};
+ghost use Rattle.layout_faces.specs.Faces.{is_other, others, raw_normal, point};
+ghost use Rattle.layout_faces.specs.Inner.Steps.{height_of, beside_of, sides_of, turned_of, facing, face_of, Within};
+ghost use Rattle.layout_faces.specs.Inner.Margin.{Near, NearPoint, NearIn, level_of};
 ghost use Rattle.layout_faces.specs.declared.Face.TheVariants.{Skip};
 
 // Origin: vbap.rs line 274; guards the division by a normal's length.
@@ -25,7 +22,22 @@ const LARGEST: f64 = 2.0;
 // How far a point stands well over a plane, by the normal before it is scaled. Origin: 2^-16, crate layout_margin: the normal of near points is at most 2^6 long, and 2^-22 is above EPS.
 const MARGIN: f64 = 0.0000152587890625;
 
-// On which sides of a plane no other point stands.
+// The numbers of three points.
+#[derive(Clone, Copy)]
+pub struct Triple {
+    pub i: usize,
+    pub j: usize,
+    pub k: usize,
+}
+
+// A plane: its normal, and its distance from the origin along that.
+#[derive(Clone, Copy)]
+pub struct Plane {
+    pub nrm: [f64; 3],
+    pub d: f64,
+}
+
+// On which sides of a plane no other point stands. Both are looked for at once, and neither tells of a value beside it.
 #[derive(Clone, Copy)]
 pub struct Sides {
     pub below: bool,
@@ -39,70 +51,49 @@ pub enum Face {
     Skip,
     // a face whose plane passes through the origin, or behind it
     Open,
-    // a face: its outward normal, and its distance from the origin along that
-    Outward { x: f64, y: f64, z: f64, d: f64 },
+    // a face, with its outward plane
+    Outward(Plane),
 }
 
-// Whether p is none of i, j and k.
-pub fn is_other(i: usize, j: usize, k: usize, p: usize) -> bool
-    ensures { result ≡ is_other i j k p }
+// Whether p is none of the triple.
+pub fn is_other(t: Triple, p: usize) -> bool
+    ensures { result ≡ is_other t.i t.j t.k p }
 {
-    !((p == i) | (p == j) | (p == k))
+    !((p == t.i) | (p == t.j) | (p == t.k))
 }
 
-// How far point p stands over the plane of nrm and d.
-pub fn height(pts: &[f64; 162], nrm: [f64; 3], d: f64, p: usize) -> f64
-    requires { p < 54 }
-    ensures { result ≡ height_in pts.now nrm d p }
+// How far a point stands over a plane.
+pub fn height(plane: Plane, p: [f64; 3]) -> f64
+    ensures { result ≡ height_of plane p }
 {
-    vector::dot(nrm, vector::point(pts, p)) - d
+    vector::dot(plane.nrm, p) - plane.d
 }
 
-// The sides without a point, from s, once point p is looked at too. A corner of the triple changes nothing.
-fn beside(
-    pts: &[f64; 162],
-    i: usize,
-    j: usize,
-    k: usize,
-    nrm: [f64; 3],
-    d: f64,
-    p: usize,
-    s: Sides,
-) -> Sides
-    requires { p < 54 }
-    ensures { result ≡ beside_of pts.now i j k nrm d p s }
+// The sides without a point, from s, once a point is looked at too.
+#[tactic(auto, unfolding(crate::specs::Inner::Steps::beside_of))]
+fn beside(plane: Plane, p: [f64; 3], s: Sides) -> Sides
+    ensures { result ≡ beside_of plane p s }
 {
-    if !is_other(i, j, k, p) {
-        return s;
-    }
-    let v = height(pts, nrm, d, p);
+    let v = height(plane, p);
     Sides {
         below: !(v > EPS) & s.below,
         above: !(v < -EPS) & s.above,
     }
 }
 
-// On which sides of the plane none of the first n points but the triple's own stands: from the last point on, until both sides have one.
-fn all_sides(
-    pts: &[f64; 162],
-    n: usize,
-    i: usize,
-    j: usize,
-    k: usize,
-    nrm: [f64; 3],
-    d: f64,
-) -> Sides
-    requires { n ≤ 54 }
-    ensures { result ≡ sides_of (points_in n pts.now) nrm d (others n i j k) }
+// On which sides of the plane none of the points but the triple's own stands: from the last point on, until both sides have one.
+fn all_sides(pts: &[[f64; 3]], t: Triple, plane: Plane) -> Sides
+    ensures { result ≡ sides_of pts.now plane (others (length pts.now) t.i t.j t.k) }
 {
     let mut s = Sides {
         below: true,
         above: true,
     };
-    let mut p: usize = n;
-    while p > 0 {
-        p -= 1;
-        s = beside(pts, i, j, k, nrm, d, p, s);
+    for p in (0..pts.len()).rev() {
+        if !is_other(t, p) {
+            continue;
+        }
+        s = beside(plane, pts[p], s);
         if !(s.below | s.above) {
             return s;
         }
@@ -111,29 +102,32 @@ fn all_sides(
 }
 
 // The normal of the plane through three points, before it is scaled.
-fn raw_normal(pts: &[f64; 162], i: usize, j: usize, k: usize) -> [f64; 3]
-    requires { (i < 54) × (j < 54) × (k < 54) }
-    ensures { result ≡ raw_normal (part 3 pts.now i) (part 3 pts.now j) (part 3 pts.now k) }
+#[tactic(auto, unfolding(crate::specs::Faces::raw_normal))]
+fn raw_normal(a: [f64; 3], b: [f64; 3], c: [f64; 3]) -> [f64; 3]
+    ensures { result ≡ raw_normal a b c }
 {
-    let a = vector::point(pts, i);
-    let ab = vector::less(vector::point(pts, j), a);
-    let ac = vector::less(vector::point(pts, k), a);
-    vector::cross(ab, ac)
+    vector::cross(vector::less(b, a), vector::less(c, a))
 }
 
-// A face with the outward normal nrm, at the distance d.
-fn outward(nrm: [f64; 3], d: f64) -> Face
-    ensures { result ≡ facing nrm d }
+// The plane seen from its other side.
+fn turned(plane: Plane) -> Plane
+    ensures { result ≡ turned_of plane }
 {
-    if d < LEAST_DISTANCE {
+    Plane {
+        nrm: vector::negated(plane.nrm),
+        d: -plane.d,
+    }
+}
+
+// A face with the outward plane.
+#[tactic(auto, unfolding(crate::specs::Inner::Steps::facing))]
+fn outward(plane: Plane) -> Face
+    ensures { result ≡ facing plane }
+{
+    if plane.d < LEAST_DISTANCE {
         return Face::Open;
     }
-    Face::Outward {
-        x: nrm[0],
-        y: nrm[1],
-        z: nrm[2],
-        d,
-    }
+    Face::Outward(plane)
 }
 
 // Whether a coordinate is finite and at most 2 in size.
@@ -143,59 +137,64 @@ fn is_near(c: f64) -> bool
     float_order::abs64(c) <= LARGEST
 }
 
-// Whether the first n points are near: their coordinates are finite and at most 2 in size. It promises what a true says and nothing of a false, on which no result rests: `face_test` answers the same with either, and takes longer without it.
-pub fn all_near(pts: &[f64; 162], n: usize) -> bool
-    requires { n ≤ 54 }
-    ensures { result ≡ true → NearIn n pts.now }
+// Whether a point's coordinates are.
+fn is_near_point(p: [f64; 3]) -> bool
+    ensures { result ≡ true → NearPoint p }
 {
-    for q in 0..n * 3 {
-        if !is_near(pts[q]) {
-            return false;
-        }
-    }
-    true
+    is_near(p[0]) & is_near(p[1]) & is_near(p[2])
 }
 
-// Whether point p stands neither well over the plane nor well under it.
-fn is_level(pts: &[f64; 162], raw: [f64; 3], d: f64, p: usize) -> bool
-    requires { p < 54 }
-    ensures { result ≡ level_in pts.now raw d p }
+// Whether the points are near: their coordinates are finite and at most 2 in size. It promises what a true says and nothing of a false, on which no result rests: `face_test` answers the same with either, and takes longer without it.
+pub fn all_near(pts: &[[f64; 3]]) -> bool
+    ensures { result ≡ true → NearIn pts.now }
 {
-    let w = height(pts, raw, d, p);
+    pts.iter().all(|p| is_near_point(*p))
+}
+
+// Whether a point stands neither well over the plane nor well under it.
+#[tactic(auto, unfolding(crate::specs::Inner::Margin::level_of))]
+fn is_level(plane: Plane, p: [f64; 3]) -> bool
+    ensures { result ≡ level_of plane p }
+{
+    let w = height(plane, p);
     !(w > MARGIN) & !(w < -MARGIN)
 }
 
-// Whether of the first n points one stands well over the plane of the triple and one well under it, by the normal before it is scaled, and neither is the triple's own. Then near points need no root: the triple is no face.
-fn well_apart(pts: &[f64; 162], n: usize, i: usize, j: usize, k: usize, raw: [f64; 3]) -> bool
-    requires { (n ≤ 54) × (i < n) × (j < n) × (k < n) × (raw ≡ raw_normal (part 3 pts.now i) (part 3 pts.now j) (part 3 pts.now k)) }
-    ensures { result ≡ true → NearIn n pts.now → face_of (points_in n pts.now) i j k ≡ Skip }
+// Whether one of the points stands well over the plane of the triple and one well under it, by the normal before it is scaled, and neither is the triple's own. Then near points need no root: the triple is no face.
+fn well_apart(pts: &[[f64; 3]], t: Triple, raw: [f64; 3]) -> bool
+    requires within { Within (length pts.now) t }
+    requires raw { raw ≡ raw_normal (point pts.now t.i) (point pts.now t.j) (point pts.now t.k) }
+    ensures { result ≡ true → NearIn pts.now → face_of pts.now t.i t.j t.k ≡ Skip }
 {
-    let d = vector::dot(raw, vector::point(pts, i));
+    let a = pts[t.i];
+    let plane = Plane {
+        nrm: raw,
+        d: vector::dot(raw, a),
+    };
+    let n = pts.len();
     let mut over = false;
     let mut under = false;
-    let mut p: usize = 0;
-    let mut q: usize = n;
-    while p < q {
-        q -= 1;
-        let v = height(pts, raw, d, p);
-        let w = height(pts, raw, d, q);
+    for p in 0..n.div_ceil(2) {
+        let v = height(plane, pts[p]);
+        let w = height(plane, pts[n - 1 - p]);
         over = over | (v > MARGIN) | (w > MARGIN);
         under = under | (v < -MARGIN) | (w < -MARGIN);
         if over & under {
-            return is_level(pts, raw, d, i) & is_level(pts, raw, d, j) & is_level(pts, raw, d, k);
+            return is_level(plane, a) & is_level(plane, pts[t.j]) & is_level(plane, pts[t.k]);
         }
-        p += 1;
     }
     false
 }
 
-// The tests of the triple i, j, k among the first n points, up to that of the plane's distance; `near` tells that the points are.
-pub fn face_test(pts: &[f64; 162], n: usize, near: bool, i: usize, j: usize, k: usize) -> Face
-    requires { (n ≤ 54) × (i < n) × (j < n) × (k < n) × (near ≡ true → NearIn n pts.now) }
-    ensures { result ≡ face_of (points_in n pts.now) i j k }
+// The tests of a triple of the points, up to that of its plane's distance; `near` tells that the points are.
+pub fn face_test(pts: &[[f64; 3]], near: bool, t: Triple) -> Face
+    requires within { Within (length pts.now) t }
+    requires near { near ≡ true → NearIn pts.now }
+    ensures { result ≡ face_of pts.now t.i t.j t.k }
 {
-    let raw = raw_normal(pts, i, j, k);
-    if near & well_apart(pts, n, i, j, k, raw) {
+    let a = pts[t.i];
+    let raw = raw_normal(a, pts[t.j], pts[t.k]);
+    if near & well_apart(pts, t, raw) {
         return Face::Skip;
     }
     let nl = vector::length64(raw);
@@ -203,13 +202,14 @@ pub fn face_test(pts: &[f64; 162], n: usize, near: bool, i: usize, j: usize, k: 
         return Face::Skip;
     }
     let nrm = vector::over(raw, nl);
-    let d = vector::dot(nrm, vector::point(pts, i));
-    let s = all_sides(pts, n, i, j, k, nrm, d);
+    let d = vector::dot(nrm, a);
+    let plane = Plane { nrm, d };
+    let s = all_sides(pts, t, plane);
     if s.below {
-        return outward(nrm, d);
+        return outward(plane);
     }
     if s.above {
-        return outward(vector::negated(nrm), -d);
+        return outward(turned(plane));
     }
     Face::Skip
 }

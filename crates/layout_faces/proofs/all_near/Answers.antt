@@ -1,21 +1,13 @@
-use mathlib.Core.Path.{refl, sym}
-use mathlib.Core.Bool.{true≢false}
-use native.Mathlib.Omega.{arith}
-use borrow.Author.Tests.{not-false}
-use Rattle.layout_faces.specs.Inner.Margin.{NearIn}
-use Rattle.lists.proofs.Ranges.{below_next}
+-- `layout_faces::all_near` meets its contract: where all pass, each point is near. Assumes nothing.
+use Rattle.std.proofs.Common.{rules, [], zero-le}
+use Rattle.std.proofs.lemmas.Bool.{MatchBool-at_true}
+use Rattle.std.proofs.lemmas.Iterator.{YieldsList-from_slice, cases_from_all}
+use borrow.Author.Tests.{tests}
+use Rattle.vector.specs.Vector.{Vector}
+use Rattle.layout_faces.specs.Inner.Margin.{NearPoint, NearIn}
 use Rattle.layout_faces.proofs.all_near.Goals as goal
-
-pub loop-q-init : goal.loop-q-init
-loop-q-init c = (omega arith, refl, c.requires, λ p h. absurd (omega arith))
-
-pub returns-then-not-is_near : goal.returns-then-not-is_near
-returns-then-not-is_near c e = absurd (true≢false (sym e))
-
-pub loop-q-preserved : goal.loop-q-preserved
-loop-q-preserved c =
-    (omega arith, omega arith, omega arith, below_next c.loop-q.q c.loop-q.invariant.3 (c.is_near.ensures (not-false _ c.if-not-is_near.false-raw)))
 
 pub returns : goal.returns
 unfolding NearIn
-returns c e p h = c.loop-q.invariant.3 p (omega arith)
+returns c e p h =
+    MatchBool-at_true _ _ e (cases_from_all _ _ _ (λ (v : Vector). NearPoint v) (λ _. Unit {0}) c.all.ensures.ran (YieldsList-from_slice c.args.pts.now cc) (λ x q k. search (rules, tests)) (λ x q k. tt)) p [] zero-le h

@@ -1,10 +1,11 @@
 -- What lets `face_test` skip a triple before the root is taken: near points, and a margin about the plane. The answer of the tests does not turn on it. Assumes nothing.
-use Rattle.std.specs.Prelude.{ℕ, ◌*◌, ◌<◌, ◌≡◌, Bool, true, ◌&&◌, not, List, get_or, Float}
-use Rattle.std.specs.Float.{nan, binary64}
+use Rattle.std.specs.Prelude.{ℕ, ◌<◌, ◌≡◌, Bool, true, ◌&&◌, not, length, Float}
+use Rattle.std.specs.Float.{binary64}
 use Rattle.std.specs.Float.Ieee.{neg, lt, le, fits, of_bits}
 use Rattle.float_order.specs.Values.{abs}
-use Rattle.vector.specs.Vector.{Vector}
-use Rattle.layout_faces.specs.Inner.Steps.{height_in}
+use Rattle.vector.specs.Vector.{Vector, Points, x, y, z}
+use Rattle.layout_faces.specs.Faces.{Plane, point}
+use Rattle.layout_faces.specs.Inner.Steps.{height_of}
 
 -- 2: 4000_0000_0000_0000. Origin: a direction's coordinates are at most 1; 2 is the bound of crate layout_margin.
 abbrev pub largest : Float
@@ -19,10 +20,15 @@ pub record Near (c : Float) : Type 0 where
   pub held : fits binary64 c ≡ true
   pub most : le (abs c) largest ≡ true
 
--- the first n points of a flat array
-unfoldable pub NearIn : ℕ → List Float → Type 0
-NearIn n flat = (q : ℕ) → q < n * 3 → Near (get_or flat q nan)
+pub record NearPoint (v : Vector) : Type 0 where
+  pub first : Near (x v)
+  pub second : Near (y v)
+  pub third : Near (z v)
 
--- point p stands neither well over the plane nor well under it
-unfoldable pub level_in : List Float → Vector → Float → ℕ → Bool
-level_in flat nrm d p = not (lt margin (height_in flat nrm d p)) && not (lt (height_in flat nrm d p) (neg margin))
+-- all points are near
+unfoldable pub NearIn : Points → Type 0
+NearIn pts = (p : ℕ) → p < length pts → NearPoint (point pts p)
+
+-- a point stands neither well over the plane nor well under it
+unfoldable pub level_of : Plane → Vector → Bool
+level_of f p = not (lt margin (height_of f p)) && not (lt (height_of f p) (neg margin))
