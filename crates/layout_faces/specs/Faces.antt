@@ -5,8 +5,7 @@ use Rattle.std.specs.Float.{binary64}
 use Rattle.std.specs.Float.Ieee.{sub, neg, lt, of_bits}
 use Rattle.lists.specs.Lists.{range, filter, every}
 use Rattle.vector.specs.Vector.{Vector, Points, dot_of, cross_of, less_of, over_of, negated_of, length_of}
--- A face's plane is the code's: its unit normal, and its distance from the origin along that.
-pub use Rattle.layout_faces.specs.declared.Plane.{Plane}
+use Rattle.layout_faces.specs.declared.Plane.{Plane as OfCode}
 
 -- ---- tolerances
 
@@ -23,6 +22,10 @@ abbrev pub least_distance : Float
 least_distance = of_bits binary64 0x3f1a_36e2_eb1c_432d
 
 -- ---- a triple's plane, and where the other points stand
+
+-- a face's plane, as the code has it: its unit normal, and its distance from the origin along that
+abbrev pub Plane : Type 0
+Plane = OfCode
 
 abbrev pub point : Points → ℕ → Vector
 point pts p = get_or pts p []

@@ -1,82 +1,62 @@
 -- Laws of the points in one plane: those that a loop passes, and the fan of their angles. Assumes nothing.
-use Prim.Native.Nat.{ℕ, zero, suc, ◌+◌, ◌-◌, ◌≤◌, ◌<◌}
-use mathlib.Core.Path.{◌≡◌, refl, sym, ap, ◌∙◌}
-use mathlib.Core.Bool.{Bool, true, false, cond}
-use mathlib.Core.List.{List, [], ◌∷◌, map, map-append}
-use native.Mathlib.Numerals.{add-one}
-use native.Mathlib.Omega.{arith}
-use borrow.Author.Tests.{lt-ltb, ltb-true, eq-eqb, ne_eqb}
-use lib.Dec.{ltb, eqb}
-use lib.Ieee.{Float, binary64, sub, neg, le}
-use lib.ListN.{length, get_or, set, take, replicate, length-append, length-map, length-take}
-use lib.Seq.{take-suc, length-take-le, get_or-take}
-use Rattle.lists.specs.Lists.{from, range, between, filter, every, is_empty}
-use Rattle.lists.proofs.Ranges.{length_range, range_none, range_snoc, range_between, between_cons, between_append, length_between}
-use Rattle.lists.proofs.Tests.{or_true, and_left, and_right, every_at, empty_length}
+use Rattle.std.proofs.Common.{◌≡◌, ℕ, zero, suc, ◌+◌, ◌-◌, ◌≤◌, ◌<◌, Bool, true, false, cond, ◌&&◌, List, [], ◌∷◌, ◌++◌, map, length, get_or, take, set, refl, sym, ap, ◌∙◌, add-one, arith, length-append, lt-ltb, ltb-true, eq-eqb, ltb, eqb}
+use mathlib.Core.List.{map-append}
+use lib.Ieee.{Float, neg, le}
+use lib.Seq.{take-suc, take-suc-set}
+use Rattle.lists.specs.Lists.{from, range, between, filter, every}
+use Rattle.lists.proofs.Ranges.{range_none, range_snoc, range_between, between_cons, between_append, length_between}
+use Rattle.lists.proofs.Tests.{or_true, every_at, empty_length}
 use Rattle.lists.proofs.Collect.{filter_append, filter_yes, filter_no, length_filter}
-use Rattle.lists.proofs.Filled.{Gathered, gathered_none, gathered_same, gathered_more, set_filled, take_filled}
-use Rattle.lists.proofs.Search.{position_le}
-use Rattle.float_order.specs.Remainder.{rem_euclid_of}
-use Rattle.float_sine.specs.Pi.{two_pi}
-use Rattle.vector.specs.Vector.{Vector, points_in, cross_of}
-use Rattle.vector.proofs.Points.{point_at, length_points}
+use Rattle.vector.specs.Vector.{Vector, Points}
+use Rattle.layout_faces.specs.Faces.{Plane, eps, point, others, height, is_other}
 use Rattle.angle_sort.specs.declared.Spot.{Spot}
 use Rattle.angle_sort.specs.Order.{sorted_of}
-use Rattle.angle_sort.specs.Inner.Front.{sorted_in}
-use Rattle.angle_sort.proofs.Insertion.{length_sorted, sorted_filled}
-use Rattle.layout_faces.specs.Faces.{eps, point, others, height, is_other}
-use Rattle.layout_faces.specs.Inner.Steps.{plane_of}
-use Rattle.layout_faces.proofs.Reading.{height_in_lem}
-use Rattle.layout_fan.specs.Fan.{coplanar, basis_u, angle_in, fan, adjacent, in_fan}
-use Rattle.layout_fan.specs.Inner.Steps.{Numbers, numbers_in, is_coplanar, coplanar_of, below54, angle_of, spot_of, no_spot, spots_of, pos_of, fan_of, fan_test}
+use Rattle.layout_fan.specs.declared.Basis.{Basis}
+use Rattle.layout_fan.specs.Fan.{coplanar, adjacent, in_fan, fan, angle_in}
+use Rattle.layout_fan.specs.Inner.Steps.{is_coplanar, basis_of, angle_by, spot_of, fan_test}
 
--- ---- the numbers below p that pass a test, gathered in an array
+-- ---- the numbers below p that pass a test, in the first places of an array
 
 module _ (f : ℕ → Bool) where
-  abbrev pub Found : ℕ → List ℕ → ℕ → Type 0
-  Found p at count = Gathered 54 0 (filter f (range p)) at count
+  pub record Found (p : ℕ) (to : List ℕ) (count : ℕ) : Type 0 where
+    pub are : take count to ≡ filter f (range p)
+    pub few : count ≤ p
 
-  pub found_none : Found 0 (replicate 54 0) 0
+  pub found_none : (to : List ℕ) → Found 0 to 0
   unfolding filter
-  found_none = gathered_same 54 0 (rw range_none refl) (gathered_none 54 0)
+  found_none to = record { are = rw range_none refl; few = omega arith }
 
-  module _ (p : ℕ) {at : List ℕ} {count : ℕ} (g : Found p at count) where
-    pub found_room : p < 54 → count < 54
-    found_room h = omega (arith, g.counts, length_filter f (range p), length_range p)
+  module _ (p : ℕ) {to : List ℕ} {count : ℕ} (g : Found p to count) {b : Bool} (e : b ≡ f p) where
+    pub found_no : b ≡ false → Found (p + 1) to count
+    found_no n = record { are = g.are ∙ sym (ap (filter f) (range_snoc p) ∙ filter_no f (range p) p (sym e ∙ n)); few = omega (arith, g.few) }
 
-    -- b is what the test says of p
-    module _ {b : Bool} (e : b ≡ f p) where
-      pub found_no : b ≡ false → Found (p + 1) at count
-      found_no n = gathered_same 54 0 (ap (filter f) (range_snoc p) ∙ filter_no f (range p) p (sym e ∙ n)) g
-
-      pub found_yes : p < 54 → b ≡ true → Found (p + 1) (set at count p) (count + 1)
-      found_yes h y = gathered_same 54 0 (ap (filter f) (range_snoc p) ∙ filter_yes f (range p) p (sym e ∙ y)) (gathered_more 54 0 p (found_room h) g)
+    pub found_yes : count < length to → b ≡ true → Found (p + 1) (set to count p) (count + 1)
+    found_yes h y = record {
+      are = rw add-one (take-suc-set to count p h) ∙ ap (λ (l : List ℕ). l ++ p ∷ []) g.are ∙ sym (ap (filter f) (range_snoc p) ∙ filter_yes f (range p) p (sym e ∙ y));
+      few = omega (arith, g.few);
+    }
 
 -- ---- the coplanar points
 
-module _ (n : ℕ) (flat : List Float) (i j k : ℕ) (nrm : Vector) (d : Float) where
-  abbrev in_plane : ℕ → Bool
-  in_plane p = le (neg eps) (height (points_in n flat) (plane_of nrm d) p)
+-- those that pass two tests
+filter_both : (f g : ℕ → Bool) (l : List ℕ) → filter (λ p. g p && f p) l ≡ filter f (filter g l)
+unfolding filter
+filter_both f g [] = refl
+filter_both f g (p ∷ l) = by (g p) (filter_both f g l)
+  where
+    by : (b : Bool) → filter (λ p. g p && f p) l ≡ filter f (filter g l)
+        → cond (b && f p) (p ∷ filter (λ p. g p && f p) l) (filter (λ p. g p && f p) l) ≡ filter f (cond b (p ∷ filter g l) (filter g l))
+    by true e = rw e refl
+    by false e = e
 
-  coplanar_from : (a m : ℕ) → a + m ≤ n → filter (is_coplanar flat i j k nrm d) (from a m) ≡ filter in_plane (filter (is_other i j k) (from a m))
-  unfolding from filter is_coplanar
-  coplanar_from a zero h = refl
-  coplanar_from a (suc m) h = by (is_other i j k a) refl (coplanar_from (suc a) m (omega arith))
-    where
-      by : (b : Bool) → is_other i j k a ≡ b
-          → filter (is_coplanar flat i j k nrm d) (from (suc a) m) ≡ filter in_plane (filter (is_other i j k) (from (suc a) m))
-          → cond (is_coplanar flat i j k nrm d a) (a ∷ filter (is_coplanar flat i j k nrm d) (from (suc a) m)) (filter (is_coplanar flat i j k nrm d) (from (suc a) m))
-          ≡ filter in_plane (cond b (a ∷ filter (is_other i j k) (from (suc a) m)) (filter (is_other i j k) (from (suc a) m)))
-      by true e rest = rw (e, ← height_in_lem n flat nrm d a (omega arith), rest)
-      by false e rest = rw (e, rest)
+module _ (pts : Points) (i j k : ℕ) (f : Plane) where
+  -- the test of point p
+  abbrev pub coplanar_at : ℕ → Bool
+  coplanar_at p = is_coplanar i j k f p (point pts p)
 
-  coplanar_range : filter (is_coplanar flat i j k nrm d) (range n) ≡ coplanar (points_in n flat) (plane_of nrm d) (others n i j k)
-  unfolding coplanar others range
-  coplanar_range = coplanar_from 0 n (omega arith)
-
-  pub found_all : {p : ℕ} {at : List ℕ} {count : ℕ} → p ≡ n → Found (is_coplanar flat i j k nrm d) p at count → numbers_in at count ≡ coplanar_of (points_in n flat) nrm d (others n i j k)
-  unfolding coplanar_of
-  found_all e g = rw (← coplanar_range, ← e, g.counts, g.holds) refl
+  pub coplanar_range : filter coplanar_at (range (length pts)) ≡ coplanar pts f (others (length pts) i j k)
+  unfolding coplanar others is_coplanar height
+  coplanar_range = filter_both (λ p. le (neg eps) (height pts f p)) (is_other i j k) (range (length pts))
 
 -- ---- how many there are
 
@@ -128,11 +108,11 @@ few_others n i j k h g e =
       passing_le t (k + 1) n,
     )
 
-few_coplanar : (n : ℕ) (flat : List Float) (i j k : ℕ) (nrm : Vector) (d : Float) → i < j → j < k → k < n
-    → length (coplanar (points_in n flat) (plane_of nrm d) (others n i j k)) + 3 ≤ n
-unfolding coplanar
-few_coplanar n flat i j k nrm d h g e =
-    omega (arith, length_filter (λ p. le (neg eps) (height (points_in n flat) (plane_of nrm d) p)) (others n i j k), few_others n i j k h g e)
+module _ (pts : Points) (i j k : ℕ) (f : Plane) where
+  pub few_coplanar : i < j → j < k → k < length pts → length (coplanar pts f (others (length pts) i j k)) + 3 ≤ length pts
+  unfolding coplanar
+  few_coplanar h g e =
+      omega (arith, length_filter (λ p. le (neg eps) (height pts f p)) (others (length pts) i j k), few_others (length pts) i j k h g e)
 
 -- ---- numbers that are points'
 
@@ -152,106 +132,39 @@ module _ (f : ℕ → Bool) (n : ℕ) where
   unfolding range
   below_range m h = below_from 0 m (omega arith)
 
-below_coplanar : (n : ℕ) (flat : List Float) (i j k : ℕ) (nrm : Vector) (d : Float) (b : ℕ) → n ≤ b
-    → every (λ p. ltb p b) (coplanar (points_in n flat) (plane_of nrm d) (others n i j k)) ≡ true
-below_coplanar n flat i j k nrm d b h = rw (← coplanar_range n flat i j k nrm d) (below_range (is_coplanar flat i j k nrm d) b n h)
+pub below_coplanar : (pts : Points) (i j k : ℕ) (f : Plane) → every (λ p. ltb p (length pts)) (coplanar pts f (others (length pts) i j k)) ≡ true
+below_coplanar pts i j k f = rw (← coplanar_range pts i j k f) (below_range (coplanar_at pts i j k f) (length pts) (length pts) (omega arith))
 
-below_two : (n j k : ℕ) (l : List ℕ) → j < n → k < n → every (λ p. ltb p n) l ≡ true → every (λ p. ltb p n) (j ∷ k ∷ l) ≡ true
-unfolding every
-below_two n j k l h g e = rw (lt-ltb j n h, lt-ltb k n g, e) refl
+pub below_at : (n : ℕ) (l : List ℕ) (q : ℕ) → every (λ p. ltb p n) l ≡ true → q < length l → get_or l q 0 < n
+below_at n l q e h = ltb-true (get_or l q 0) n (every_at (λ p. ltb p n) l q 0 e h)
 
-pub below_at : (l : List ℕ) (m q : ℕ) → below54 (take m l) → q < m → m ≤ length l → get_or l q 0 < 54
-unfolding below54
-below_at l m q e h g =
-    let t : get_or (take m l) q 0 ≡ get_or l q 0 = get_or-take m l q 0 h in
-    rw t at (ltb-true (get_or (take m l) q 0) 54 (every_at (λ p. ltb p 54) (take m l) q 0 e (omega (arith, length-take-le m l g))))
+-- ---- the spots of a fan, in the first places of an array: one more
 
--- ---- the spots of a fan
+pub spots_more : (f : ℕ → Spot) (j k : ℕ) (l : List ℕ) (q : ℕ) (a : List Spot) → q < length l → q + 2 < length a → take (q + 2) a ≡ map f (j ∷ k ∷ take q l)
+    → take (q + 1 + 2) (set a (q + 2) (f (get_or l q 0))) ≡ map f (j ∷ k ∷ take (q + 1) l)
+spots_more f j k l q a h g e =
+    let s : q + 1 + 2 ≡ suc (q + 2) = omega arith in
+    let m : map f (j ∷ k ∷ take q l) ++ f (get_or l q 0) ∷ [] ≡ map f (j ∷ k ∷ take (q + 1) l) = rw (add-one, take-suc l q 0 h, map-append f) refl in
+    rw (s, take-suc-set a (q + 2) (f (get_or l q 0)) g, e) m
 
--- one spot more
-pub spots_more : (flat : List Float) (u v : Vector) (am : Float) (j k : ℕ) (l : List ℕ) (q : ℕ) → q < length l → q < 51
-    → set (spots_of flat u v am (j ∷ k ∷ take q l)) (q + 2) (spot_of flat u v am (get_or l q 0)) ≡ spots_of flat u v am (j ∷ k ∷ take (q + 1) l)
-unfolding spots_of
-spots_more flat u v am j k l q h g =
-    let f = spot_of flat u v am in
-    let m : List Spot = map f (j ∷ k ∷ take q l) in
-    let e : length m ≡ q + 2 = length-map (j ∷ k ∷ take q l) f ∙ omega (arith, length-take-le q l (omega arith)) in
-    rw (← e, add-one, take-suc l q 0 h, map-append f) (set_filled 53 no_spot m (f (get_or l q 0)) (omega (arith, e)))
+-- the fan by what the code computed: the basis and the angle of point i
+pub fan_told : (pts : Points) (nrm : Vector) (i : ℕ) (ps : List ℕ) {b : Basis} {first : Float} → b ≡ basis_of nrm → first ≡ angle_by b (point pts i)
+    → sorted_of (map (λ p. spot_of b first p (point pts p)) ps) ≡ fan pts nrm i ps
+unfolding fan angle_in
+fan_told pts nrm i ps eb ef = rw (ef, eb) refl
 
--- the front of the sorted array is the fan
-pub fan_front : (flat : List Float) (u v : Vector) (am : Float) (j k : ℕ) (l : List ℕ) (m : ℕ) → m ≤ length l
-    → take (m + 2) (sorted_in (spots_of flat u v am (j ∷ k ∷ take m l)) (m + 2)) ≡ sorted_of (map (spot_of flat u v am) (j ∷ k ∷ take m l))
-unfolding spots_of
-fan_front flat u v am j k l m h =
-    let f = spot_of flat u v am in
-    let e : length (map f (j ∷ k ∷ take m l)) ≡ m + 2 = length-map (j ∷ k ∷ take m l) f ∙ omega (arith, length-take-le m l h) in
-    let g : length (sorted_of (map f (j ∷ k ∷ take m l))) ≡ m + 2 = length_sorted (map f (j ∷ k ∷ take m l)) ∙ e in
-    rw (sorted_filled 53 no_spot (map f (j ∷ k ∷ take m l)) (m + 2) e, ← g) (take_filled 53 no_spot (sorted_of (map f (j ∷ k ∷ take m l))))
+-- ---- the test of the fan, by the numbers l that are gathered
 
-pub pos_le : (p : ℕ) (l : List Spot) (m : ℕ) → pos_of p (take m l) ≤ m
-unfolding pos_of
-pos_le p l m = omega (arith, position_le (λ (s : Spot). eqb s.number p) (take m l), length-take m l)
-
-module _ (n : ℕ) (flat : List Float) (nrm : Vector) where
-  abbrev u : Vector
-  u = basis_u nrm
-
-  abbrev v : Vector
-  v = cross_of nrm (basis_u nrm)
-
-  angle_in_lem : (p : ℕ) → p < n → angle_in nrm (point (points_in n flat) p) ≡ angle_of flat u v p
-  unfolding angle_in angle_of
-  angle_in_lem p h = rw (point_at n flat p h)
-
-  spots_in_lem : (am : Float) (ps : List ℕ) → every (λ p. ltb p n) ps ≡ true
-      → map (λ p. record { angle = rem_euclid_of binary64 (sub binary64 (angle_in nrm (point (points_in n flat) p)) am) two_pi; number = p }) ps ≡ map (spot_of flat u v am) ps
-  unfolding every spot_of
-  spots_in_lem am [] e = refl
-  spots_in_lem am (p ∷ ps) e =
-      rw (angle_in_lem p (ltb-true p n (and_left (ltb p n) (every (λ p. ltb p n) ps) e)), spots_in_lem am ps (and_right (ltb p n) (every (λ p. ltb p n) ps) e))
-
-  fan_in : (i : ℕ) (ps : List ℕ) → i < n → every (λ p. ltb p n) ps ≡ true → fan (points_in n flat) nrm i ps ≡ fan_of flat nrm i ps
-  unfolding fan fan_of
-  fan_in i ps h e = rw (angle_in_lem i h) (ap sorted_of (spots_in_lem (angle_of flat u v i) ps e))
-
--- ---- the test of the fan, by the numbers r that the loop gathers
-
-module _ (n : ℕ) (flat : List Float) (i j k : ℕ) (nrm : Vector) (d : Float) (r : Numbers) (e : r ≡ coplanar_of (points_in n flat) nrm d (others n i j k)) where
-  abbrev in_face : List ℕ
-  in_face = coplanar (points_in n flat) (plane_of nrm d) (others n i j k)
-
-  count_found : r.count ≡ length in_face
-  unfolding coplanar_of
-  count_found = ap (λ (q : Numbers). q.count) e
-
-  front_found : take r.count r.at ≡ in_face
-  unfolding coplanar_of
-  front_found = ap (λ (q : Numbers). take q.count q.at) e ∙ take_filled 54 0 in_face
-
-  pub few_found : i < j → j < k → k < n → n ≤ 54 → r.count ≤ 51
-  few_found a b c h = omega (arith, count_found, few_coplanar n flat i j k nrm d a b c)
-
-  pub below_found : n ≤ 54 → below54 (take r.count r.at)
-  unfolding below54
-  below_found h = rw front_found (below_coplanar n flat i j k nrm d 54 h)
-
-  empty_found : is_empty in_face ≡ eqb r.count 0
-  empty_found = empty_length in_face ∙ ap (λ (m : ℕ). eqb m 0) (sym count_found)
-
-  pub fan_empty : r.count ≡ 0 → true ≡ fan_test (points_in n flat) i j k nrm d
+module _ (pts : Points) (i j k : ℕ) (f : Plane) {l : List ℕ} (e : l ≡ coplanar pts f (others (length pts) i j k)) {none : Bool} (en : none ≡ eqb (length l) 0) where
+  pub fan_empty : none ≡ true → true ≡ fan_test pts i j k f
   unfolding fan_test in_fan
-  fan_empty h = rw (length_points n flat, empty_found, eq-eqb r.count 0 h) refl
+  fan_empty h = rw (← e, empty_length l, ← en, h) refl
 
-  pub fan_higher : (r.count ≡ 0 → ⊥) → every (λ p. ltb i p) (take r.count r.at) ≡ false → false ≡ fan_test (points_in n flat) i j k nrm d
-  unfolding fan_test in_fan
-  fan_higher h g = rw (length_points n flat, empty_found, ne_eqb r.count 0 h, ← front_found, g) refl
+  module _ (h : none ≡ false) {low : Bool} (el : low ≡ every (λ p. ltb i p) l) where
+    pub fan_higher : low ≡ false → false ≡ fan_test pts i j k f
+    unfolding fan_test in_fan
+    fan_higher g = rw (← e, empty_length l, ← en, h, ← el, g) refl
 
-  pub fan_next : i < j → j < k → k < n → (r.count ≡ 0 → ⊥) → every (λ p. ltb i p) (take r.count r.at) ≡ true
-      → adjacent j k (fan_of flat nrm i (j ∷ k ∷ take r.count r.at)) ≡ fan_test (points_in n flat) i j k nrm d
-  unfolding fan_test in_fan
-  fan_next a b c h g =
-      let below : every (λ p. ltb p n) (j ∷ k ∷ in_face) ≡ true = below_two n j k in_face (omega arith) c (below_coplanar n flat i j k nrm d n (omega arith)) in
-      let same : adjacent j k (fan (points_in n flat) nrm i (j ∷ k ∷ in_face)) ≡ adjacent j k (fan_of flat nrm i (j ∷ k ∷ in_face)) =
-      ap (adjacent j k) (fan_in n flat nrm i (j ∷ k ∷ in_face) (omega arith) below) in
-      let low : every (λ p. ltb i p) in_face ≡ true = rw front_found at g in
-      rw (length_points n flat, empty_found, ne_eqb r.count 0 h, low, same, front_found) refl
+    pub fan_next : {r : Bool} → low ≡ true → r ≡ adjacent j k (fan pts f.nrm i (j ∷ k ∷ l)) → r ≡ fan_test pts i j k f
+    unfolding fan_test in_fan
+    fan_next g er = rw (← e, empty_length l, ← en, h, ← el, g) er

@@ -1,4 +1,4 @@
+pub mod Chained
 pub mod Fans
-pub mod Computed
 pub mod Rings
 pub mod Meaning

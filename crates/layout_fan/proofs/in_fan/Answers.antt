@@ -1,34 +1,25 @@
 -- `layout_fan::in_fan` meets its contract: the numbers that are gathered are the coplanar points, at most 51, and each is a point's. Assumes nothing.
-use mathlib.Core.Path.{refl, sym, ◌∙◌}
-use native.Mathlib.Omega.{arith}
-use borrow.Author.Tests.{not-true, not-false}
-use Rattle.layout_fan.proofs.Fans.{few_found, below_found, fan_empty, fan_higher, fan_next}
+use Rattle.std.proofs.Common.{arith}
+use Rattle.layout_fan.proofs.Fans.{few_coplanar, below_coplanar, fan_empty, fan_higher, fan_next}
 use Rattle.layout_fan.proofs.in_fan.Goals as goal
 
-pub coplanar-m-requires : goal.coplanar-m-requires
-coplanar-m-requires c = (c.requires.0, refl)
-
-pub returns-then-m-eq0 : goal.returns-then-m-eq0
-returns-then-m-eq0 c =
-    let a = c.args in
-    fan_empty a.n a.pts.now a.i a.j a.k a.nrm a.d _ c.coplanar-m.ensures c.if-m-eq0.true
-
-pub is_lowest-requires : goal.is_lowest-requires
-is_lowest-requires c =
-    let a = c.args in
-    omega (arith, few_found a.n a.pts.now a.i a.j a.k a.nrm a.d _ c.coplanar-m.ensures c.requires.1 c.requires.2 c.requires.3 c.requires.0)
+pub returns-then-is_empty : goal.returns-then-is_empty
+returns-then-is_empty c = fan_empty _ _ _ _ _ c.coplanar-m.ensures.are c.is_empty.ensures c.if-is_empty.true
 
 pub returns-then-not-is_lowest : goal.returns-then-not-is_lowest
 returns-then-not-is_lowest c =
-    let a = c.args in
-    fan_higher a.n a.pts.now a.i a.j a.k a.nrm a.d _ c.coplanar-m.ensures c.if-m-eq0.false (sym c.is_lowest.ensures ∙ not-true _ c.if-not-is_lowest.true-raw)
+    fan_higher _ _ _ _ _ c.coplanar-m.ensures.are c.is_empty.ensures c.if-is_empty.false c.is_lowest.ensures c.if-not-is_lowest.true
 
-pub next_in_fan-requires : goal.next_in_fan-requires
-next_in_fan-requires c =
+pub next_in_fan-requires-clause-few : goal.next_in_fan-requires-clause-few
+next_in_fan-requires-clause-few c =
     let a = c.args in
-    (few_found a.n a.pts.now a.i a.j a.k a.nrm a.d _ c.coplanar-m.ensures c.requires.1 c.requires.2 c.requires.3 c.requires.0, omega arith, omega arith, omega arith, below_found a.n a.pts.now a.i a.j a.k a.nrm a.d _ c.coplanar-m.ensures c.requires.0)
+    rw c.coplanar-m.ensures.are (omega (arith, few_coplanar a.pts.now a.t.i a.t.j a.t.k a.plane c.requires.1 c.requires.2 c.requires.3))
+
+pub next_in_fan-requires-clause-within : goal.next_in_fan-requires-clause-within
+next_in_fan-requires-clause-within c =
+    let a = c.args in
+    (omega arith, omega arith, c.requires.3, rw c.coplanar-m.ensures.are (below_coplanar a.pts.now a.t.i a.t.j a.t.k a.plane))
 
 pub returns : goal.returns
 returns c =
-    let a = c.args in
-    c.next_in_fan.ensures ∙ fan_next a.n a.pts.now a.i a.j a.k a.nrm a.d _ c.coplanar-m.ensures c.requires.1 c.requires.2 c.requires.3 c.if-m-eq0.false (sym c.is_lowest.ensures ∙ not-false _ c.if-not-is_lowest.false-raw)
+    fan_next _ _ _ _ _ c.coplanar-m.ensures.are c.is_empty.ensures c.if-is_empty.false c.is_lowest.ensures c.if-not-is_lowest.false c.next_in_fan.ensures

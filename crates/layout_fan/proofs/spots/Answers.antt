@@ -1,30 +1,19 @@
-use mathlib.Core.Path.{◌≡◌, refl}
-use native.Mathlib.Omega.{arith}
-use lib.Ieee.{of_bits}
-use lib.ListN.{length}
-use Rattle.lists.specs.Lists.{filled}
-use Rattle.layout_fan.specs.Inner.Steps.{spots_of}
-use Rattle.layout_fan.proofs.Fans.{spots_more, below_at}
+use Rattle.std.proofs.Common.{◌<◌, ◌+◌, ℕ, length, get_or, arith, rules, length-set, ◌∙◌}
+use Rattle.layout_faces.specs.Faces.{point}
+use Rattle.layout_fan.specs.Inner.Steps.{spot_of}
+use Rattle.layout_fan.proofs.Fans.{below_at, spots_more}
 use Rattle.layout_fan.proofs.spots.Goals as goal
-use Rattle.layout_fan.proofs.spots.Goals.{Start}
 
--- an array by value has its type's length
-long : (g : Start) → length g.args.at ≡ 54
-long g = g.well_formed.1.1.1.1.1.1.0.1.0.1
+pub offset_bounds-pts-p : goal.offset_bounds-pts-p
+offset_bounds-pts-p c =
+    let h : get_or c.args.numbers.now c.loop-q.q 0 < length c.args.pts.now = below_at _ _ c.loop-q.q c.requires.within.2 c.loop-q-test.true in
+    search rules
 
-pub loop-q-init : goal.loop-q-init
-unfolding spots_of filled of_bits
-loop-q-init c = (omega arith, rw (c.spot.ensures, c.spot-2.ensures) refl)
-
-pub spot-s-requires : goal.spot-s-requires
-spot-s-requires c =
-    below_at c.args.at c.args.m c.loop-q.q c.requires.3 c.loop-q-test.true (omega (arith, long (goal.at.spot-s-requires c).Start))
+pub bounds-pts-p : goal.bounds-pts-p
+bounds-pts-p c = below_at _ _ c.loop-q.q c.requires.within.2 c.loop-q-test.true
 
 pub loop-q-preserved : goal.loop-q-preserved
 loop-q-preserved c =
-    (omega arith, rw (c.loop-q.invariant.1, c.spot-s.ensures) (spots_more _ _ _ _ _ _ c.args.at c.loop-q.q (omega (arith, long (goal.at.loop-q-preserved c).Start)) (omega arith)))
-
-pub returns : goal.returns
-returns c =
-    let e : c.loop-q.q ≡ c.args.m = omega arith in
-    rw (← e) c.loop-q.invariant.1
+    let a = c.args in
+    let f = λ (p : ℕ). spot_of a.basis a.first p (point a.pts.now p) in
+    (length-set c.loop-q.a (c.loop-q.q + 2) c.spot-s.result ∙ c.loop-q.invariant.0, rw c.spot-s.ensures (spots_more f a.j a.k a.numbers.now c.loop-q.q c.loop-q.a c.loop-q-test.true (omega arith) c.loop-q.invariant.1))

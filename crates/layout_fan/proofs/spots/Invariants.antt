@@ -1,13 +1,8 @@
--- `layout_fan::spots` meets its contract: after q turns the array holds the spots of j, k and the first q numbers. Assumes nothing.
-use Prim.Native.Nat.{◌-◌, ◌≤◌}
-use mathlib.Core.Path.{◌≡◌}
-use mathlib.Core.List.{◌∷◌}
-use lib.ListN.{take}
-use Rattle.layout_fan.specs.Inner.Steps.{spots_of}
+-- `layout_fan::spots` meets its contract: after q turns the array's first places hold the spots of j, k and the first q numbers. Assumes nothing.
+use Rattle.std.proofs.Common.{◌≡◌, ◌+◌, ◌∷◌, length, map, take}
+use Rattle.layout_faces.specs.Faces.{point}
+use Rattle.layout_fan.specs.Inner.Steps.{spot_of}
 use Rattle.layout_fan.proofs.spots.Given as goal
 
 abbrev pub invariant-loop-q : goal.invariant-loop-q
-invariant-loop-q l = (l.q ≤ l.m) × (l.a ≡ spots_of l.pts l.u l.v l.am (l.j ∷ l.k ∷ take l.q l.at))
-
-abbrev pub decreases-loop-q : goal.decreases-loop-q
-decreases-loop-q l = l.m - l.q
+invariant-loop-q l = (length l.a ≡ 53) × (take (l.q + 2) l.a ≡ map (λ p. spot_of l.basis l.first p (point l.pts p)) (l.j ∷ l.k ∷ take l.q l.numbers))
