@@ -18,15 +18,17 @@ use Rattle.float_order.specs.Remainder.{rem_euclid_of}
 use Rattle.float_root.specs.Root.{sqrt_of}
 use Rattle.float_sine.specs.Series.{coefficients, sum_of}
 use Rattle.float_arctangent.specs.Arctangent.{arctangent_coefficients, halved_of, eightfold_of, atan_of, ratio_of, first_quadrant_of, with_sign_of_x, with_sign_of_y, atan2_of}
-use Rattle.vector.specs.Vector.{minor, cross_of, determinant_of, dot_in, dot_of, less_of, over_of, negated_of, length_of}
+use Rattle.vector.specs.Vector.{Vector, minor, cross_of, determinant_of, dot_in, dot_of, less_of, over_of, negated_of, length_of}
 use Rattle.angle_sort.specs.Order.{insert_of, sorted_of}
 use Rattle.layout_faces.specs.Faces.{Plane, others, height, raw_normal, plane_through, all_below, all_above, outward}
-use Rattle.layout_faces.specs.Inner.Steps.{plane_of}
 use Rattle.layout_fan.specs.Fan.{coplanar, helper, basis_u, angle_in, fan}
 use Rattle.layout_fan.specs.Meaning.{Triple, Among, fan_from, in_plane, ring_by, SeenAlike}
 use Rattle.layout_fan.proofs.Meaning.{among_members}
 use Rattle.layout_hull.specs.Divided.{outward_plane, other_tests, square, SquareDivided}
 use Rattle.layout_hull.proofs.Divided.{divided_once}
+
+abbrev plane_of : Vector → Float → Plane
+plane_of u l = record { nrm = u; d = l }
 
 abbrev triple : ℕ → ℕ → ℕ → Triple
 triple i j k = record { i = i; j = j; k = k }

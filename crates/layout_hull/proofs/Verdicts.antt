@@ -5,16 +5,15 @@ use mathlib.Core.Bool.{Bool, true, false, ◌||◌, not, cond}
 use mathlib.Core.List.{List, [], ◌∷◌, ◌++◌, map, flat_map, append_assoc, append-nil}
 use native.Mathlib.Numerals.{add-one}
 use native.Mathlib.Omega.{arith}
-use lib.Ieee.{Float, binary64, div, lt, neg}
+use lib.Ieee.{Float, lt}
 use lib.ListN.{length}
 use Rattle.lists.specs.Lists.{range, between}
 use Rattle.lists.proofs.Ranges.{range_none, range_snoc, between_none, between_snoc}
 use Rattle.lists.proofs.Collect.{map_snoc, flat_map_snoc}
 use Rattle.float_order.specs.Values.{abs}
-use Rattle.vector.specs.Vector.{Points, x, y, z, points_in, dot_of, determinant_of, over_of, negated_of, length_of}
-use Rattle.vector.proofs.Points.{length_points}
-use Rattle.layout_faces.specs.Faces.{least_normal, least_distance, point, others, raw_normal, plane_through, all_below, all_above, outward}
-use Rattle.layout_faces.specs.Inner.Steps.{plane_of, sides_of, facing, turned_by, face_of}
+use Rattle.vector.specs.Vector.{Points, determinant_of, length_of}
+use Rattle.layout_faces.specs.Faces.{Plane, least_normal, least_distance, point, others, raw_normal, plane_through, all_below, all_above, outward}
+use Rattle.layout_faces.specs.Inner.Steps.{sides_of, turned_of, facing, turned_by, face_of}
 use Rattle.layout_faces.specs.declared.Face.{Face}
 use Rattle.layout_faces.specs.declared.Face.TheVariants.{Skip, Open, Outward}
 use Rattle.layout_fan.specs.Inner.Steps.{fan_test}
@@ -32,23 +31,22 @@ module _ (pts : Points) (i j k : ℕ) where
   unfoldable by_face : Face → Verdict
   by_face Skip = skip
   by_face Open = open_hull
-  by_face (Outward a b c d) = cond (not (fan_test pts i j k (a ∷ b ∷ c ∷ []) d)) skip (cond (lt (abs determinant) least_determinant) skip (keep triplet_at))
+  by_face (Outward f) = cond (not (fan_test pts i j k f)) skip (cond (lt (abs determinant) least_determinant) skip (keep triplet_at))
 
-  outer : (a b c d : Float) → verdict_by pts i j k (plane_of (a ∷ b ∷ c ∷ []) d) ≡ by_face (facing (a ∷ b ∷ c ∷ []) d)
+  outer : (f : Plane) → verdict_by pts i j k f ≡ by_face (facing f)
   unfolding verdict_by facing fan_test by_face
-  outer a b c d = by (lt d least_distance)
+  outer f = by (lt f.d least_distance)
     where
-      by : (t : Bool) → cond t open_hull (by_face (Outward a b c d)) ≡ by_face (cond t Open (Outward a b c d))
+      by : (t : Bool) → cond t open_hull (by_face (Outward f)) ≡ by_face (cond t Open (Outward f))
       by true = refl
       by false = refl
 
-  turned : (below above : Bool) (a b c d : Float)
-      → cond (not (below || above)) skip (verdict_by pts i j k (outward below (plane_of (a ∷ b ∷ c ∷ []) d)))
-      ≡ by_face (turned_by (record { below = below; above = above }) (a ∷ b ∷ c ∷ []) d)
-  unfolding outward turned_by negated_of by_face
-  turned true above a b c d = outer a b c d
-  turned false true a b c d = outer (neg a) (neg b) (neg c) (neg d)
-  turned false false a b c d = refl
+  turned : (below above : Bool) (f : Plane)
+      → cond (not (below || above)) skip (verdict_by pts i j k (outward below f)) ≡ by_face (turned_by (record { below = below; above = above }) f)
+  unfolding outward turned_by by_face
+  turned true above f = outer f
+  turned false true f = outer (turned_of f)
+  turned false false f = refl
 
   thin : (t : Bool) (w : Verdict) (f : Face) → w ≡ by_face f → cond t skip w ≡ by_face (cond t Skip f)
   unfolding by_face
@@ -56,18 +54,16 @@ module _ (pts : Points) (i j k : ℕ) where
   thin false w f e = e
 
   verdict_face : verdict pts i j k ≡ by_face (face_of pts i j k)
-  unfolding verdict face_of plane_through sides_of over_of
+  unfolding verdict face_of sides_of
   verdict_face =
-      let r = raw_normal (point pts i) (point pts j) (point pts k) in
-      let l = length_of r in
-      let f = plane_of (over_of r l) (dot_of (over_of r l) (point pts i)) in
+      let f = plane_through (point pts i) (point pts j) (point pts k) in
       let ps = others (length pts) i j k in
       let below = all_below pts f ps in
       let above = all_above pts f ps in
-      thin (lt l least_normal)
+      thin (lt (length_of (raw_normal (point pts i) (point pts j) (point pts k))) least_normal)
       (cond (not (below || above)) skip (verdict_by pts i j k (outward below f)))
-      (turned_by (record { below = below; above = above }) f.nrm f.d)
-      (turned below above (div binary64 (x r) l) (div binary64 (y r) l) (div binary64 (z r) l) f.d)
+      (turned_by (record { below = below; above = above }) f)
+      (turned below above f)
 
   -- what the code learns of a triple, one way round each
   pub verdict_skip : face_of pts i j k ≡ Skip → verdict pts i j k ≡ skip
@@ -78,16 +74,16 @@ module _ (pts : Points) (i j k : ℕ) where
   unfolding by_face
   verdict_open e = verdict_face ∙ ap by_face e
 
-  module _ (a b c d : Float) (f : face_of pts i j k ≡ Outward a b c d) where
-    pub verdict_out : fan_test pts i j k (a ∷ b ∷ c ∷ []) d ≡ false → verdict pts i j k ≡ skip
+  module _ (g : Plane) (f : face_of pts i j k ≡ Outward g) where
+    pub verdict_out : fan_test pts i j k g ≡ false → verdict pts i j k ≡ skip
     unfolding by_face
     verdict_out e = verdict_face ∙ ap by_face f ∙ rw e refl
 
-    pub verdict_small : fan_test pts i j k (a ∷ b ∷ c ∷ []) d ≡ true → lt (abs determinant) least_determinant ≡ true → verdict pts i j k ≡ skip
+    pub verdict_small : fan_test pts i j k g ≡ true → lt (abs determinant) least_determinant ≡ true → verdict pts i j k ≡ skip
     unfolding by_face
     verdict_small e g = verdict_face ∙ ap by_face f ∙ rw (e, g) refl
 
-    pub verdict_keep : fan_test pts i j k (a ∷ b ∷ c ∷ []) d ≡ true → lt (abs determinant) least_determinant ≡ false → verdict pts i j k ≡ keep triplet_at
+    pub verdict_keep : fan_test pts i j k g ≡ true → lt (abs determinant) least_determinant ≡ false → verdict pts i j k ≡ keep triplet_at
     unfolding by_face
     verdict_keep e g = verdict_face ∙ ap by_face f ∙ rw (e, g) refl
 
@@ -101,7 +97,7 @@ module _ (pts : Points) (i j k : ℕ) where
   unfolding by_face
   own Skip t e = cc
   own Open t e = cc
-  own (Outward a b c d) t e = chosen (not (fan_test pts i j k (a ∷ b ∷ c ∷ []) d)) (lt (abs determinant) least_determinant) t e
+  own (Outward g) t e = chosen (not (fan_test pts i j k g)) (lt (abs determinant) least_determinant) t e
 
   pub verdict_own : (t : Triplet) → verdict pts i j k ≡ keep t → t ≡ triplet_at
   verdict_own t e = own (face_of pts i j k) t (sym verdict_face ∙ e)
@@ -144,6 +140,6 @@ module _ {A : Type 0} (v : ℕ → ℕ → ℕ → A) (n : ℕ) where
   pub second_done : (i : ℕ) → at_second i n ≡ at_first (i + 1)
   second_done i = rw (range_snoc i, flat_map_snoc) refl
 
-pub all_verdicts : (n : ℕ) (flat : List Float) → at_first (verdict (points_in n flat)) n n ≡ verdicts (points_in n flat)
+pub all_verdicts : (pts : Points) → at_first (verdict pts) (length pts) (length pts) ≡ verdicts pts
 unfolding verdicts
-all_verdicts n flat = rw (length_points n flat) refl
+all_verdicts pts = refl

@@ -1,4 +1,4 @@
--- What the functions of src/lib.rt answer on the way from the points' flat array to the definitions of `Triplets` and `Flat`. Assumes nothing.
+-- What the functions of src/lib.rt answer on the way to the definitions of `Triplets` and `Flat`. Assumes nothing.
 use Rattle.std.specs.Prelude.{ℕ, ◌+◌, ◌*◌, true, ◌&&◌, not, cond, eqb, ltb, get_or, set, Float}
 use mathlib.Core.List.{List, [], ◌∷◌, foldl}
 use Rattle.std.proofs.lemmas.List.Edits.{sets}
