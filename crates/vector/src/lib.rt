@@ -1,7 +1,8 @@
 // Vectors of three numbers: directions and the points of a hull.
 #![tactic(auto)]
 
-ghost use Rattle.std.specs.Prelude.{◌≡◌, ◌<◌};
+ghost use Rattle.std.specs.Prelude.{◌≡◌, ◌+◌, ◌*◌, ◌≤◌, length};
+ghost use Rattle.lists.specs.Lists.{part};
 ghost use Rattle.vector.specs.Vector.{dot_of, cross_of, less_of, over_of, negated_of, length_of, dir_vec_of, point_in};
 ghost use Rattle.vector.specs.Inner.Unit.{unit_in};
 
@@ -92,12 +93,13 @@ pub fn length64(a: [f64; 3]) -> f64
     float_root::sqrt64(dot(a, a))
 }
 
-// Point i of 54, three numbers a point. Origin of 54: document 01, 40 positions and 14 imaginary points; 162 = 54 * 3.
-pub fn point(pts: &[f64; 162], i: usize) -> [f64; 3]
-    requires { i < 54 }
-    ensures { result ≡ point_in pts.now i }
+// Point i of a flat array, three numbers a point.
+pub fn point(flat: &[f64], i: usize) -> [f64; 3]
+    requires { i * 3 + 3 ≤ length flat.now }
+    ensures read { result ≡ point_in flat.now i }
+    ensures part { result ≡ part 3 flat.now i }
 {
-    [pts[i * 3], pts[i * 3 + 1], pts[i * 3 + 2]]
+    [flat[i * 3], flat[i * 3 + 1], flat[i * 3 + 2]]
 }
 
 // The direction of a source at an azimuth and an elevation.
