@@ -1,18 +1,16 @@
 // Imaginary speakers: poles and candidates, added until the hull is closed.
-// Lengths of arrays: 40 directions (document 01, refusal 2) and 14 imaginary points (vbap.rs line 60) are 54 points, of three numbers each: 120 and 162.
+// Lengths of arrays: 40 directions (document 01, refusal 2) and 14 imaginary points (vbap.rs line 60) are 54 points; 40 directions of three numbers each are 120.
 #![tactic(auto)]
 
-ghost use Rattle.std.specs.Prelude.{◌≡◌, [], ◌∷◌, ◌++◌, ◌+◌, ◌≤◌, ◌<◌, length};
-ghost use Rattle.lists.specs.Lists.{filled};
-ghost use Rattle.float_order.specs.Values.{+0};
+ghost use Rattle.std.specs.Prelude.{◌≡◌, [], ◌+◌, ◌≤◌, ◌<◌, take};
 ghost use Rattle.vector.specs.Vector.{points_in};
 ghost use Rattle.layout_closing.specs.Closing.{nearest_product, passed_over, with_pole, better, candidate_of};
-ghost use Rattle.layout_closing.specs.Inner.Flat.{best_in, found_in, ended_in};
+ghost use Rattle.layout_closing.specs.Inner.Flat.{best_in, found_in, wins_by, ended_in};
 
 use layout_hull::Hull;
 use vector::MAX_IMAGINARY;
 
-// What the closing ends with: how many imaginary points there are, poles counted; the hull of all points, which is open where no candidate or no room was left; whether a triplet list on the way had more than 80 entries.
+// What the closing ends with: how many imaginary points there are, poles counted; the hull of all points, which is open where no candidate or no room was left; whether a triplet list on the way had more than 80 entries, which a short list at the end does not undo.
 #[derive(Clone, Copy)]
 pub struct Ended {
     pub imag: usize,
@@ -20,10 +18,9 @@ pub struct Ended {
     pub over: bool,
 }
 
-// The best candidate so far, with its greatest product.
+// A candidate with its greatest product.
 #[derive(Clone, Copy)]
 struct Best {
-    found: bool,
     c: [f64; 3],
     nearest: f64,
 }
@@ -55,101 +52,82 @@ const CANDIDATES: [[f64; 3]; 14] = [
     [-H, -H, -H],
 ];
 
-// The greatest dot product of c with the first n points.
-fn nearest_product(pts: &[f64; 162], n: usize, c: [f64; 3]) -> f64
-    requires { (n ≤ 54) × (length pts.now ≡ 162) }
-    ensures { result ≡ nearest_product (points_in n pts.now) c }
+// The greatest dot product of c with the points.
+fn nearest_product(pts: &[[f64; 3]], c: [f64; 3]) -> f64
+    ensures { result ≡ nearest_product pts.now c }
 {
     // −∞. Origin: vbap.rs line 384
     let mut g = -1.0 / 0.0;
-    let mut i = 0;
-    while i < n {
-        let p = vector::point(pts, i);
-        g = float_order::max64(g, vector::dot(p, c));
-        i += 1;
+    for p in pts {
+        g = float_order::max64(g, vector::dot(*p, c));
     }
     g
 }
 
 // Whether a point is (almost) there.
-fn passed_over(pts: &[f64; 162], n: usize, c: [f64; 3]) -> bool
-    requires { (n ≤ 54) × (length pts.now ≡ 162) }
-    ensures { result ≡ passed_over (points_in n pts.now) c }
+#[tactic(auto, unfolding(crate::specs::Closing::passed_over))]
+fn passed_over(pts: &[[f64; 3]], c: [f64; 3]) -> bool
+    ensures { result ≡ passed_over pts.now c }
 {
-    ALMOST <= nearest_product(pts, n, c)
+    ALMOST <= nearest_product(pts, c)
 }
 
-// The point c behind the first n.
-fn push(pts: &mut [f64; 162], n: usize, c: [f64; 3])
-    requires { (n < 54) × (length pts.old ≡ 162) }
-    ensures { (length pts.new ≡ 162) × (points_in (n + 1) pts.new ≡ points_in n pts.old ++ c ∷ []) }
+// The first n points, and a pole that is not passed over; how many points there are then.
+fn with_pole(pts: &mut [[f64; 3]; 54], n: usize, c: [f64; 3]) -> usize
+    requires { n < 54 }
+    ensures { (n ≤ result) × (result ≤ n + 1) × (take result pts.new ≡ with_pole (take n pts.old) c) }
 {
-    pts[n * 3] = c[0];
-    pts[n * 3 + 1] = c[1];
-    pts[n * 3 + 2] = c[2];
-}
-
-// The points, and a pole that is not passed over; how many points there are then.
-fn with_pole(pts: &mut [f64; 162], n: usize, c: [f64; 3]) -> usize
-    requires { (n < 54) × (length pts.old ≡ 162) }
-    ensures { (length pts.new ≡ 162) × (n ≤ result) × (result ≤ n + 1) × (points_in result pts.new ≡ with_pole (points_in n pts.old) c) }
-{
-    if passed_over(pts, n, c) {
+    if passed_over(&pts[..n], c) {
         return n;
     }
-    push(pts, n, c);
+    pts[n] = c;
     n + 1
 }
 
-// The better of the best so far and c, where that is not passed over: c wins only when its product is below the other's less 1e-9.
-fn better(pts: &[f64; 162], n: usize, best: Best, c: [f64; 3]) -> Best
-    requires { (n ≤ 54) × (length pts.now ≡ 162) × (best ≡ best_in (points_in n pts.now) (found_in best)) }
-    ensures { result ≡ best_in (points_in n pts.now) (better (points_in n pts.now) (found_in best) c) }
+// Whether a candidate with the given greatest product wins over the best so far: only when its product is below the other's less 1e-9.
+fn wins(nearest: f64, best: Option<Best>) -> bool
+    ensures { result ≡ wins_by nearest best }
 {
-    let nearest = nearest_product(pts, n, c);
-    if ALMOST <= nearest {
-        return best;
-    }
-    if best.found & !(nearest < best.nearest - LEAST_LEAD) {
-        return best;
-    }
-    Best {
-        found: true,
-        c,
-        nearest,
+    match best {
+        Some(b) => nearest < b.nearest - LEAST_LEAD,
+        None => true,
     }
 }
 
-// The candidate with the least greatest product.
-fn candidate(pts: &[f64; 162], n: usize) -> Best
-    requires { (n ≤ 54) × (length pts.now ≡ 162) }
-    ensures { result ≡ best_in (points_in n pts.now) (candidate_of (points_in n pts.now)) }
+// The better of the best so far and c, where that is not passed over.
+fn better(pts: &[[f64; 3]], best: Option<Best>, c: [f64; 3]) -> Option<Best>
+    requires { best ≡ best_in pts.now (found_in best) }
+    ensures { result ≡ best_in pts.now (better pts.now (found_in best) c) }
 {
-    let table = CANDIDATES;
-    let mut best = Best {
-        found: false,
-        c: [0.0; 3],
-        nearest: 0.0,
-    };
-    let mut i = 0;
-    while i < table.len() {
-        let c = table[i];
-        best = better(pts, n, best, c);
-        i += 1;
+    let nearest = nearest_product(pts, c);
+    if ALMOST <= nearest {
+        return best;
+    }
+    if wins(nearest, best) {
+        return Some(Best { c, nearest });
     }
     best
 }
 
-// The directions in an array with room for the imaginary points.
-fn with_room(dir: &[f64]) -> [f64; 162]
-    requires { length dir.now ≡ 120 }
-    ensures { result ≡ filled 162 +0 dir.now }
+// The candidate with the least greatest product.
+fn candidate(pts: &[[f64; 3]]) -> Option<Best>
+    ensures { result ≡ best_in pts.now (candidate_of pts.now) }
 {
-    let mut pts = [0.0; 162];
-    let mut i = 0;
-    while i < 120 {
-        pts[i] = dir[i];
-        i += 1;
+    let mut best = None;
+    for c in CANDIDATES {
+        best = better(pts, best, c);
+    }
+    best
+}
+
+// The first n directions, with room for the imaginary points.
+fn with_room(dir: &[f64; 120], n: usize) -> [[f64; 3]; 54]
+    requires { n ≤ 40 }
+    ensures { take n result ≡ points_in n dir.now }
+{
+    let mut pts = [[0.0; 3]; 54];
+    for i in 0..n {
+        pts[i] = vector::point(dir, i);
     }
     pts
 }
@@ -159,24 +137,23 @@ pub fn close(dir: &[f64; 120], n: usize) -> Ended
     requires { n ≤ 40 }
     ensures { result ≡ ended_in (points_in n dir.now) }
 {
-    let mut pts = with_room(dir);
+    let mut pts = with_room(dir, n);
     // the poles. Origin: vbap.rs lines 369 and 371
     let top = with_pole(&mut pts, n, [0.0, 1.0, 0.0]);
     let mut m = with_pole(&mut pts, top, [0.0, -1.0, 0.0]);
-    let mut hull = layout_hull::hull_triplets(&pts, m);
+    let mut hull = layout_hull::hull_triplets(&pts[..m]);
     let mut over = hull.over;
     while m - n < MAX_IMAGINARY {
         if hull.enclosed {
             break;
         }
-        let best = candidate(&pts, m);
-        if !best.found {
+        let Some(best) = candidate(&pts[..m]) else {
             break;
-        }
+        };
         let c = best.c;
-        push(&mut pts, m, c);
+        pts[m] = c;
         m += 1;
-        hull = layout_hull::hull_triplets(&pts, m);
+        hull = layout_hull::hull_triplets(&pts[..m]);
         over = over | hull.over;
     }
     Ended {

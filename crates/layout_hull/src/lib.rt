@@ -14,6 +14,9 @@ use layout_faces::{Face, Triple};
 // Origin: vbap.rs line 345; guards the division by a triplet's determinant.
 const LEAST_DETERMINANT: f64 = 1e-9;
 
+// How many triplets a hull may have. Origin: document 01, refusal 4.
+const MOST_TRIPLETS: usize = 80;
+
 // The triplets of a hull laid flat (the source's `tris`), whether there were more than 80, and whether they tile the sphere (the source's `tiled`). Both are told of the same triplets, in any pairing, and none of the fields waits on one of them.
 #[derive(Clone, Copy)]
 pub struct Hull {
@@ -117,8 +120,7 @@ pub fn hull_triplets(pts: &[[f64; 3]]) -> Hull
                     continue 'third;
                 }
                 let p = h.count;
-                // Origin: document 01, refusal 4
-                if 80 <= p {
+                if MOST_TRIPLETS <= p {
                     h.over = true;
                     continue 'third;
                 }

@@ -1,5 +1,5 @@
 -- The loop's invariant: what is left to do from the present points gives the same as from the start. Assumes nothing.
-use Prim.Native.Nat.{◌-◌}
+use Rattle.std.proofs.Common.{◌-◌}
 use Rattle.vector.specs.Vector.{points_in}
 use Rattle.layout_closing.proofs.Stages.{Left}
 use Rattle.layout_closing.proofs.close.Given as goal

@@ -1,26 +1,18 @@
-use Prim.Native.Nat.{zero-le}
-use mathlib.Core.Path.{◌≡◌, sym, ◌∙◌}
+use Rattle.std.proofs.Common.{sym, ap, ◌∙◌}
 use lib.Ieee.{div, neg, of_bits}
-use Rattle.lists.specs.Lists.{part}
-use Rattle.float_order.specs.Order.{max_of}
-use Rattle.vector.specs.Vector.{dot_of, points_in}
-use Rattle.layout_faces.proofs.Reading.{read_dot}
+use lib.Seq.{take_all}
+use Rattle.vector.specs.Vector.{Points}
 use Rattle.layout_closing.specs.Closing.{nearest_product}
 use Rattle.layout_closing.proofs.Points.{nearest_none, nearest_more}
-use native.Mathlib.Omega.{arith}
 use Rattle.layout_closing.proofs.nearest_product.Goals as goal
 
-pub loop-i-init : goal.loop-i-init
+pub loop-p-init : goal.loop-p-init
 unfolding div neg of_bits
-loop-i-init c = (zero-le, sym (nearest_none _ _))
+loop-p-init c = sym (nearest_none c.args.pts.now c.args.c)
 
-pub loop-i-preserved : goal.loop-i-preserved
-loop-i-preserved c =
-    let q = read_dot c.args.pts.now c.loop-i.i c.args.c in
-    let p : c.max64-g.result ≡ max_of (nearest_product (points_in c.loop-i.i c.args.pts.now) c.args.c) (dot_of (part 3 c.args.pts.now c.loop-i.i) c.args.c) = cc in
-    (omega arith, p ∙ sym (nearest_more c.args.pts.now c.args.c c.loop-i.i))
+pub loop-p-preserved : goal.loop-p-preserved
+loop-p-preserved c = cc (nearest_more c.args.pts.now c.args.c c.loop-p.p-index c.loop-p-test.true)
 
 pub returns : goal.returns
 returns c =
-    let e : c.args.n ≡ c.loop-i.i = omega arith in
-    rw e c.loop-i.invariant.1
+    c.loop-p.invariant ∙ ap (λ (l : Points). nearest_product l c.args.c) (take_all c.loop-p.p-index c.args.pts.now c.loop-p-test.false)
