@@ -1,4 +1,3 @@
-pub mod Accepted
 pub mod Points
 pub mod Pulkki
 pub mod Rows

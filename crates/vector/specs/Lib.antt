@@ -2,5 +2,4 @@ pub mod Limits
 pub mod Operations
 pub mod Vector
 pub mod Speakers
-pub mod Inner
 pub mod Pulkki

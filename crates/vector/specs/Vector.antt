@@ -1,7 +1,6 @@
 -- Document 01, "What to write where" (each direction an [f64; 3]); source lines 155 to 183: unit, cross, dot, dir_vec.
 -- A vector is the list of its three numbers. What dot, cross, a determinant and an inverse's rows are is written in Operations.antt. Assumes nothing.
-use Rattle.std.specs.Prelude.{ℕ, ◌+◌, ◌*◌, ◌||◌, not, cond, List, [], ◌∷◌, ◌++◌, map, get_or, Float}
-use Rattle.std.proofs.Math.Option.{Option, none, some}
+use Rattle.std.specs.Prelude.{ℕ, ◌+◌, ◌*◌, ◌||◌, not, cond, List, [], ◌∷◌, ◌++◌, map, get_or, Option, None, Some, Float}
 use Rattle.std.specs.Float.{nan, Format, binary32, binary64}
 use Rattle.std.specs.Float.Ieee.{add, sub, neg, mul, div, le, of_bits}
 use Rattle.lists.specs.Lists.{range, part}
@@ -76,7 +75,7 @@ shortest = of_bits binary64 0x3eb0_c6f7_a0b5_ed8d
 
 -- a position as a direction, where its length is finite and above 1e-6
 unfoldable pub unit_of : Vector → Option Vector
-unit_of p = let l = length_of p in cond (le l shortest || not (is_finite l)) none (some (over_of p l))
+unit_of p = let l = length_of p in cond (le l shortest || not (is_finite l)) None (Some (over_of p l))
 
 -- the direction of a source at (azimuth, elevation), in 32 bits
 unfoldable pub dir_vec_of : Float → Float → Vector

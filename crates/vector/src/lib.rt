@@ -3,15 +3,7 @@
 
 ghost use Rattle.std.specs.Prelude.{◌≡◌, ◌+◌, ◌*◌, ◌≤◌, length};
 ghost use Rattle.lists.specs.Lists.{part};
-ghost use Rattle.vector.specs.Vector.{dot_of, cross_of, less_of, over_of, negated_of, length_of, dir_vec_of, point_in};
-ghost use Rattle.vector.specs.Inner.Unit.{unit_in};
-
-// A position as a direction, where it has one; +0 throughout where not.
-#[derive(Clone, Copy)]
-pub struct Direction {
-    pub accepted: bool,
-    pub dir: [f64; 3],
-}
+ghost use Rattle.vector.specs.Vector.{dot_of, cross_of, less_of, over_of, negated_of, length_of, unit_of, dir_vec_of, point_in};
 
 // Origin: vbap.rs line 158; a shorter position has no direction.
 const SHORTEST: f64 = 1e-6;
@@ -20,22 +12,15 @@ const SHORTEST: f64 = 1e-6;
 pub const MAX_IMAGINARY: usize = 14;
 
 // The position as a direction, where its length is finite and above 1e-6.
-pub fn unit(p: [f32; 3]) -> Direction
-    ensures { result ≡ unit_in p }
+pub fn unit(p: [f32; 3]) -> Option<[f64; 3]>
+    ensures { result ≡ unit_of p }
 {
     let v = widened(p);
     let l = length64(v);
     if (l <= SHORTEST) | !float_order::is_finite64(l) {
-        return Direction {
-            accepted: false,
-            dir: [0.0; 3],
-        };
+        return None;
     }
-    let dir = over(v, l);
-    Direction {
-        accepted: true,
-        dir,
-    }
+    Some(over(v, l))
 }
 
 // The same three numbers, in 64 bits.
