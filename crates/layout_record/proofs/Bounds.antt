@@ -1,35 +1,60 @@
--- Laws of bounds of numbers: what all are below, the used ones are below. Assumes nothing.
-use Prim.Native.Nat.{ℕ, suc, ◌≤◌, ◌<◌}
-use mathlib.Core.Path.{◌≡◌, refl, ap, ◌∙◌}
-use mathlib.Core.Bool.{true, false}
-use mathlib.Core.List.{List, flat_map}
+-- Laws of `any`: as std has it, with one element more, and of parts of a list of which none passes. Assumes nothing.
+use Prim.Native.Nat.{ℕ, ◌+◌, ◌<◌}
+use mathlib.Core.Path.{◌≡◌, refl, sym, ap, ◌∙◌}
+use mathlib.Core.Bool.{Bool, true, false, not, ◌||◌}
+use mathlib.Core.List.{List, [], ◌∷◌, flat_map}
+use native.Mathlib.Numerals.{add-one}
 use native.Mathlib.Omega.{arith}
-use borrow.Author.Tests.{leb-true, le-leb, lt-leb}
-use lib.Dec.{leb}
 use lib.ListN.{length, get_or, take}
 use lib.Seq.{take-suc}
-use Rattle.lists.specs.Lists.{every, any, part}
-use Rattle.lists.proofs.Tests.{every_snoc, every_more, every_none, every_take, every_part, any_never, any_flat_map}
+use Rattle.std.specs.List.{list_any}
+use Rattle.std.proofs.lemmas.List.Folds.{list_any_at}
+use Rattle.lists.specs.Lists.{every, any, part, range, from}
+use Rattle.lists.proofs.Collect.{flat_map_snoc}
+use Rattle.lists.proofs.Ranges.{range_snoc, length_range, get_d_range}
+use Rattle.lists.proofs.Tests.{every_none, every_take, every_part, any_append, any_snoc, any_never, any_flat_map, neither}
 
--- with one more number that is at most the bound
-pub below_snoc : (m : ℕ) (l : List ℕ) (i : ℕ) → i < length l → get_or l i 0 ≤ m → every (λ x. leb x m) (take i l) ≡ true
-    → every (λ x. leb x m) (take (suc i) l) ≡ true
-below_snoc m l i h le e =
-    ap (every (λ x. leb x m)) (take-suc l i 0 h) ∙ every_snoc (λ x. leb x m) (take i l) (get_or l i 0) ∙ rw (e, le-leb (get_or l i 0) m le) refl
+module _ {A : Type 0} (f : A → Bool) where
+  pub any_is : (l : List A) → list_any f l ≡ any f l
+  unfolding any
+  any_is [] = refl
+  any_is (a ∷ l) = ap (λ (b : Bool). f a || b) (any_is l)
 
--- a greater bound
-pub below_more : (m b : ℕ) (l : List ℕ) → m ≤ b → every (λ x. leb x m) l ≡ true → every (λ x. leb x b) l ≡ true
-below_more m b l h e = every_more (λ a p. le-leb a b (let q : a ≤ m = leb-true a m p in omega arith)) l e
+  -- with one more element of a longer list
+  pub any_next : (l : List A) (i : ℕ) (d : A) → i < length l → any f (take (i + 1) l) ≡ any f (take i l) || f (get_or l i d)
+  any_next l i d h = rw add-one (ap (any f) (take-suc l i d h) ∙ any_snoc f (take i l) (get_or l i d))
 
--- where no number of a whole array is above m, and m is below the bound, no number of its used places reaches the bound
-pub used_below : (m b n : ℕ) (l : List ℕ) → m < b → every (λ x. leb x m) l ≡ true → any (λ x. leb b x) (take n l) ≡ false
-used_below m b n l h e =
-    every_none (λ a p. lt-leb b a (let q : a ≤ m = leb-true a m p in omega arith)) (take n l) (every_take (λ x. leb x m) n l e)
+-- where no element passes a test, each passes one that follows from that
+pub every_if_none : {A : Type 0} {f g : A → Bool} → ((a : A) → f a ≡ false → g a ≡ true) → (l : List A) → any f l ≡ false → every g l ≡ true
+unfolding any every
+every_if_none h [] e = refl
+every_if_none {f = f} h (a ∷ l) e =
+    let p = neither (f a) (any f l) e in
+    rw (h a p.0) (every_if_none h l p.1)
 
--- the same of the used places of parts of n
-pub used_parts_below : (m b n : ℕ) (l : List ℕ) (used : ℕ → ℕ) (ks : List ℕ) → m < b → every (λ x. leb x m) l ≡ true
-    → any (λ x. leb b x) (flat_map (λ k. take (used k) (part n l k)) ks) ≡ false
-used_parts_below m b n l used ks h e =
-    any_flat_map (λ x. leb b x) (λ k. take (used k) (part n l k)) ks
-    ∙ any_never (λ k. any (λ x. leb b x) (take (used k) (part n l k)))
-    (λ k. used_below m b (used k) (part n l k) h (every_part (λ x. leb x m) n l k e)) ks
+-- none of the used places of parts of n
+pub none_in_parts : {A : Type 0} (f : A → Bool) (n : ℕ) (l : List A) (used : ℕ → ℕ) (ks : List ℕ) → any f l ≡ false
+    → any f (flat_map (λ k. take (used k) (part n l k)) ks) ≡ false
+none_in_parts f n l used ks e =
+    let g = λ (a : _). not (f a) in
+    any_flat_map f (λ k. take (used k) (part n l k)) ks
+    ∙ any_never (λ k. any f (take (used k) (part n l k)))
+    (λ k. every_none (λ a p. no (f a) p) (take (used k) (part n l k)) (every_take g (used k) (part n l k) (every_part g n l k (every_if_none (λ a p. rw p) l e)))) ks
+  where
+    no : (b : Bool) → not b ≡ true → b ≡ false
+    no true p = cc
+    no false p = refl
+
+-- a loop over lists: none of those passed has an element that passes, one more, and one that has
+module _ (f : ℕ → Bool) (at : ℕ → List ℕ) where
+  pub passed_none : any f (flat_map at (range 0)) ≡ false
+  unfolding any range from flat_map
+  passed_none = refl
+
+  pub passed_more : (k : ℕ) → any f (flat_map at (range k)) ≡ false → any f (at k) ≡ false → any f (flat_map at (range (k + 1))) ≡ false
+  passed_more k e h = rw (range_snoc k, flat_map_snoc at (range k) k, any_append f (flat_map at (range k)) (at k), e, h)
+
+  pub passed_one : (k n : ℕ) → k < n → any f (at k) ≡ true → any f (flat_map at (range n)) ≡ true
+  passed_one k n h e =
+      any_flat_map f at (range n) ∙ sym (any_is (λ k. any f (at k)) (range n))
+      ∙ list_any_at (λ k. any f (at k)) (range n) k 0 (omega (arith, length_range n)) (rw (get_d_range n k 0 h, e))

@@ -1,14 +1,15 @@
 -- A record whose counts pass is within its arrays: each test of `counts_over` says so of one count. Assumes nothing.
 use Prim.Native.Nat.{ℕ, ◌≤◌}
-use mathlib.Core.Path.{◌≡◌, refl}
+use mathlib.Core.Path.{◌≡◌}
 use mathlib.Core.Bool.{true, false}
-use mathlib.Core.List.{List, [], ◌∷◌}
+use mathlib.Core.List.{List}
 use borrow.Author.Tests.{ltb-false, le-leb}
 use lib.Dec.{ltb, leb}
 use Rattle.lists.specs.Lists.{every, any}
 use Rattle.layout_record.specs.Malformed.{counts_over}
 use Rattle.layout_record.specs.declared.VbapPanner.{VbapPanner}
 use Rattle.lists.proofs.Tests.{neither}
+use Rattle.layout_record.proofs.Bounds.{every_if_none}
 
 pub record Within (v : VbapPanner) : Type 0 where
   pub outputs : v.num_outputs ≤ 40
@@ -20,12 +21,8 @@ pub record Within (v : VbapPanner) : Type 0 where
   pub nbrs : every (λ n. leb n 40) v.num_nbrs ≡ true
 
 -- no number over b, and each at most b
-pub none_over : (b : ℕ) (l : List ℕ) → any (λ n. ltb b n) l ≡ false → every (λ n. leb n b) l ≡ true
-unfolding any every
-none_over b [] e = refl
-none_over b (a ∷ l) e =
-    let p = neither (ltb b a) (any (λ n. ltb b n) l) e in
-    rw (le-leb a b (ltb-false b a p.0)) (none_over b l p.1)
+none_over : (b : ℕ) (l : List ℕ) → any (λ n. ltb b n) l ≡ false → every (λ n. leb n b) l ≡ true
+none_over b l e = every_if_none (λ a p. le-leb a b (ltb-false b a p)) l e
 
 pub within : (v : VbapPanner) → counts_over v ≡ false → Within v
 unfolding counts_over

@@ -1,5 +1,4 @@
 pub mod Bounds
-pub mod Pairs
 pub mod Counts
 pub mod Numbers
 pub mod Reading

@@ -1,12 +1,13 @@
 -- Document 01, "Returned numbers", the paragraph on 11. Assumes nothing.
-use Rattle.std.specs.Prelude.{ℕ, ◌+◌, Bool, ◌||◌, cond, ltb, leb}
+use Rattle.std.specs.Prelude.{ℕ, ◌+◌, Bool, ◌||◌, cond, ltb, leb, Result, Ok, Err}
 use mathlib.Core.List.{List, [], ◌∷◌, ◌++◌, flat_map}
 use Rattle.lists.specs.Lists.{any}
 use Rattle.layout_planar.specs.declared.PlanarPair.{PlanarPair}
 use Rattle.layout_record.specs.Shape.{numbers, Shape, silent, mono, planar, hull}
 use Rattle.layout_record.specs.Panner.{layout_in}
 use Rattle.layout_record.specs.declared.VbapPanner.{VbapPanner}
-use Rattle.layout_record.specs.declared.Outputs.{Outputs}
+use Rattle.refusals.specs.declared.Refusal.{Refusal}
+use Rattle.refusals.specs.Refusals.{number_of}
 
 -- counts, tested in every kind. Origin of the bounds: document 01, "Returned numbers", 11.
 unfoldable pub counts_over : VbapPanner → Bool
@@ -53,6 +54,15 @@ hull_out outputs points out imag corners = any_from outputs (hull_slots out imag
 
 unfoldable pub malformed_of : VbapPanner → Bool
 malformed_of v = counts_over v || numbers_out v
+
+-- what `num_outputs` answers: 0 or the refusal's number, and the count of outputs; and the answer that a Result gives, 0 beside a refusal
+pub record Outputs : Type 0 where
+  pub number : ℕ
+  pub count : ℕ
+
+abbrev pub outputs_answer : Result ℕ Refusal → Outputs
+outputs_answer (Ok n) = record { number = 0; count = n }
+outputs_answer (Err why) = record { number = number_of why; count = 0 }
 
 -- `num_outputs`: 11 and 0 for a malformed record, else 0 and the count
 unfoldable pub num_outputs_of : VbapPanner → Outputs

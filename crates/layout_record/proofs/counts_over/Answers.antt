@@ -1,11 +1,10 @@
--- `layout_record::counts_over` meets its contract: the tests in their order, and that of the fourteen counts of neighbours. Assumes nothing.
-use lib.Dec.{ltb}
-use mathlib.Core.Bool.{Bool, ◌||◌}
-use mathlib.Core.Path.{ap}
+-- `layout_record::counts_over` meets its contract: the tests in their order. Assumes nothing.
+use Rattle.std.proofs.Common.{Bool, ◌||◌, ltb, ap}
+use Rattle.layout_record.specs.Malformed.{counts_over}
 use Rattle.layout_record.proofs.counts_over.Goals as goal
 
 pub returns : goal.returns
+unfolding counts_over
 returns c =
-    let a = c.args in
-    ap (λ (b : Bool). ltb 40 a.outputs || ltb 40 a.real || ltb 40 a.pairs || ltb 40 a.slots || ltb 80 a.tris || ltb 14 a.imag || b)
-    c.nbrs_over.ensures
+    let v = c.args.p.now in
+    ap (λ (b : Bool). ltb 40 v.num_outputs || ltb 40 v.num_real || ltb 40 v.num_pairs || ltb 40 v.num_slots || ltb 80 v.num_tris || ltb 14 v.num_imag || b) c.over.ensures
