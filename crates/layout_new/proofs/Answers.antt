@@ -17,21 +17,20 @@ use Rattle.layout_record.specs.declared.VbapPanner.{VbapPanner}
 use Rattle.layout_record.specs.Malformed.{used_slots, used_points, malformed_of}
 use Rattle.layout_record.proofs.Reading.{read_back}
 use Rattle.layout_record.proofs.WellFormed.{well_formed}
-use Rattle.layout_new.specs.Layout.{outputs_of, active, level, shape_of, layout_of, too_many_triplets, new_refusal, panner_of, new_of}
+use Rattle.layout_new.specs.Layout.{outputs_of, active, level, shape_of, layout_of, too_many_triplets, new_refusal, panner_of, NewAnswer, new_of}
 use Rattle.layout_new.specs.Inner.Answers.{accepted, refused_by, hull_built_of}
 use Rattle.layout_new.specs.Meaning.{AcceptedFits, AcceptedReadBack, NeverMalformed}
-use Rattle.layout_new.specs.declared.NewPanner.{NewPanner}
 use Rattle.layout_new.proofs.Fits.{layout_fits}
 use Rattle.layout_new.proofs.Slots.{active_low, active_threes, active_few}
 
 -- ---- by the active speakers
 
-pub accepted_as : (l : Layout) {p : VbapPanner} {k : ℕ} → p ≡ laid l → k ≡ imaginary_in l.shape → ◌≡◌ {A = NewPanner} (record { number = 0; panner = p; imaginary = k }) (accepted l)
+pub accepted_as : (l : Layout) {p : VbapPanner} {k : ℕ} → p ≡ laid l → k ≡ imaginary_in l.shape → ◌≡◌ {A = NewAnswer} (record { number = 0; panner = p; imaginary = k }) (accepted l)
 unfolding accepted
 accepted_as l p k = rw (p, k)
 
 -- n outputs, and these active speakers
-unfoldable pub built_of : ℕ → List Speaker → NewPanner
+unfoldable pub built_of : ℕ → List Speaker → NewAnswer
 built_of n act = cond (too_many_triplets act) (refused_by 4) (accepted (record { outputs = n; shape = shape_of act }))
 
 module _ (n : ℕ) where
@@ -70,7 +69,7 @@ answer_number {A} number why {x} {y} p q = by (eqb why 0) refl
 
 module _ (positions : List Float) (lfe : List ℕ) where
   -- the answer by the number
-  answer : ℕ → NewPanner
+  answer : ℕ → NewAnswer
   answer why = cond (eqb why 0) (accepted (layout_of positions lfe)) (refused_by why)
 
   new_is : new_of positions lfe ≡ answer (new_refusal positions lfe)
@@ -94,6 +93,22 @@ module _ (positions : List Float) (lfe : List ℕ) where
       by true = refl
       by false = refl
 
+  -- the answer by how many are active and whether all are level
+  module _ (even : length positions % 3 ≡ 0) (room : outputs_of positions ≤ 40) where
+    pub new_silent : length (active positions lfe) ≡ 0 → accepted (record { outputs = outputs_of positions; shape = silent }) ≡ new_of positions lfe
+    new_silent e = sym (new_built even room ∙ built_none (outputs_of positions) (active positions lfe) e)
+
+    pub new_mono : length (active positions lfe) ≡ 1
+        → accepted (record { outputs = outputs_of positions; shape = mono (get_or (slots_of (active positions lfe)) 0 0) }) ≡ new_of positions lfe
+    new_mono e = sym (new_built even room ∙ built_one (outputs_of positions) (active positions lfe) e)
+
+    pub new_level : 2 ≤ length (active positions lfe) → every level (active positions lfe) ≡ true
+        → accepted (record { outputs = outputs_of positions; shape = planar (pairs_of (active positions lfe)) (slots_of (active positions lfe)) }) ≡ new_of positions lfe
+    new_level h e = sym (new_built even room ∙ built_level (outputs_of positions) (active positions lfe) h e)
+
+    pub new_hull : 2 ≤ length (active positions lfe) → every level (active positions lfe) ≡ false → hull_built_of (outputs_of positions) (active positions lfe) ≡ new_of positions lfe
+    new_hull h e = sym (new_built even room ∙ built_hull (outputs_of positions) (active positions lfe) h e)
+
   -- ---- what an accepted layout passed
 
   passed : (a b c : Bool) → ◌≡◌ {A = ℕ} (cond (not a) 1 (cond b 2 (cond c 4 0))) 0 → (b ≡ false) × (c ≡ false)
@@ -104,19 +119,19 @@ module _ (positions : List Float) (lfe : List ℕ) where
 
   number_is : (why : ℕ) → (answer why).number ≡ why
   unfolding answer accepted refused_by
-  number_is why = answer_number (λ (x : NewPanner). x.number) why refl refl
+  number_is why = answer_number (λ (x : NewAnswer). x.number) why refl refl
 
   pub accepted_is : (new_of positions lfe).number ≡ 0 → new_of positions lfe ≡ accepted (layout_of positions lfe)
   unfolding answer
   accepted_is e =
-      let z : new_refusal positions lfe ≡ 0 = sym (number_is (new_refusal positions lfe)) ∙ ap (λ (x : NewPanner). x.number) (sym new_is) ∙ e in
+      let z : new_refusal positions lfe ≡ 0 = sym (number_is (new_refusal positions lfe)) ∙ ap (λ (x : NewAnswer). x.number) (sym new_is) ∙ e in
       new_is ∙ ap answer z
 
 pub accepted_fits : AcceptedFits
 unfolding new_refusal layout_of
 accepted_fits positions lfe e =
     let z : new_refusal positions lfe ≡ 0 =
-    sym (number_is positions lfe (new_refusal positions lfe)) ∙ ap (λ (x : NewPanner). x.number) (sym (new_is positions lfe)) ∙ e in
+    sym (number_is positions lfe (new_refusal positions lfe)) ∙ ap (λ (x : NewAnswer). x.number) (sym (new_is positions lfe)) ∙ e in
     let p = passed positions lfe (eqb (length positions % 3) 0) (ltb 40 (outputs_of positions)) (too_many_triplets (active positions lfe)) z in
     layout_fits (outputs_of positions) (active positions lfe) (ltb-false 40 (outputs_of positions) p.0) (active_few positions lfe) (active_threes positions lfe)
     (active_low positions lfe) p.1
@@ -124,7 +139,7 @@ accepted_fits positions lfe e =
 pub accepted_read_back : AcceptedReadBack
 unfolding accepted
 accepted_read_back positions lfe e =
-    ap (λ (x : NewPanner). layout_in x.panner) (accepted_is positions lfe e) ∙ read_back (layout_of positions lfe) (accepted_fits positions lfe e).shape
+    ap (λ (x : NewAnswer). layout_in x.panner) (accepted_is positions lfe e) ∙ read_back (layout_of positions lfe) (accepted_fits positions lfe e).shape
 
 -- ---- never malformed
 
@@ -139,9 +154,9 @@ never_malformed positions lfe = by (eqb (new_refusal positions lfe) 0) refl
     by : (b : Bool) → eqb (new_refusal positions lfe) 0 ≡ b → malformed_of (new_of positions lfe).panner ≡ false
     by true e =
         let n : (new_of positions lfe).number ≡ 0 =
-        ap (λ (x : NewPanner). x.number) (new_is positions lfe) ∙ number_is positions lfe (new_refusal positions lfe) ∙ eqb-true (new_refusal positions lfe) 0 e in
-        ap (λ (x : NewPanner). malformed_of x.panner) (accepted_is positions lfe n) ∙ well_formed (layout_of positions lfe) (accepted_fits positions lfe n)
+        ap (λ (x : NewAnswer). x.number) (new_is positions lfe) ∙ number_is positions lfe (new_refusal positions lfe) ∙ eqb-true (new_refusal positions lfe) 0 e in
+        ap (λ (x : NewAnswer). malformed_of x.panner) (accepted_is positions lfe n) ∙ well_formed (layout_of positions lfe) (accepted_fits positions lfe n)
     by false e =
-        ap (λ (x : NewPanner). malformed_of x.panner)
+        ap (λ (x : NewAnswer). malformed_of x.panner)
         (new_is positions lfe ∙ ap (λ (b : Bool). cond b (accepted (layout_of positions lfe)) (refused_by (new_refusal positions lfe))) e)
         ∙ blank_formed

@@ -29,11 +29,10 @@ use Rattle.layout_record.specs.Panner.{laid}
 use Rattle.layout_record.specs.declared.VbapPanner.{VbapPanner}
 use Rattle.lists.proofs.Ranges.{by_places, get_d_map}
 use Rattle.lists.proofs.Parts.{part_row}
-use Rattle.layout_new.specs.Layout.{build_hull_of}
+use Rattle.layout_new.specs.Layout.{build_hull_of, NewAnswer}
 use Rattle.layout_new.specs.Inner.Arrays.{speakers_of, Holds}
 use Rattle.layout_new.specs.Inner.Answers.{accepted, refused_by, hull_built_of}
 use Rattle.layout_new.specs.Inner.Arrays.{Active}
-use Rattle.layout_new.specs.declared.NewPanner.{NewPanner}
 use Rattle.layout_new.proofs.Fits.{dirs_count, imag_count}
 use Rattle.layout_new.proofs.Hulls.{numbers_low, final_count, final_fits}
 use Rattle.layout_new.proofs.Slots.{slots_of_lem}
@@ -161,8 +160,7 @@ map_flat f [] = refl
 map_flat f (l ∷ ls) = map-append f l (flat_map (λ d. d) ls) ∙ ap (λ (r : List Float). map f l ++ r) (map_flat f ls)
 
 pub narrowed_are : (a : Active) → Holds a
-    → filled 120 +0 (map narrow_of (take (a.count * 3) a.dir)) ≡ filled 120 +0 (flat_map (λ d. d) (build_hull_of (speakers_of a)).dirs)
-unfolding build_hull_of
+    → filled 120 +0 (map narrow_of (take (a.count * 3) a.dir)) ≡ filled 120 +0 (flat_map (λ d. d) (map (map narrow_of) (dirs_of (speakers_of a))))
 narrowed_are a h =
     let flat : List Float = flat_map (λ d. d) (dirs_of (speakers_of a)) in
     let all : take (a.count * 3) a.dir ≡ flat = ap₂ take (sym (flat_length a h)) (dir_holds a h) ∙ take_filled 120 +0 flat in
@@ -176,6 +174,6 @@ hull_refused n act e = rw e
 
 pub hull_accepted : (n : ℕ) (act : List Speaker) {p : VbapPanner} {k : ℕ} → overfull (dirs_of act) ≡ false
     → p ≡ laid (record { outputs = n; shape = hull (build_hull_of act) }) → k ≡ length (build_hull_of act).imag
-    → ◌≡◌ {A = NewPanner} (record { number = 0; panner = p; imaginary = k }) (hull_built_of n act)
+    → ◌≡◌ {A = NewAnswer} (record { number = 0; panner = p; imaginary = k }) (hull_built_of n act)
 unfolding hull_built_of accepted imaginary_in
 hull_accepted n act e p k = rw (e, p, k)

@@ -1,31 +1,36 @@
--- A record written in one piece is the layout laid flat: without a hull by the speakers on its ring, with one by its parts. Assumes nothing.
+-- A record written in one piece is the layout laid flat, kind by kind. Assumes nothing.
 use Prim.Native.Nat.{ℕ}
 use mathlib.Core.Path.{◌≡◌, refl}
-use native.Mathlib.Omega.{arith}
 use mathlib.Core.List.{List, [], map, flat_map}
 use lib.Ieee.{Float, nan}
 use lib.ListN.{length, get_or, replicate}
-use Rattle.lists.specs.Lists.{from, range, collect, filled}
+use Rattle.lists.specs.Lists.{from, range, filled}
 use Rattle.float_order.specs.Values.{+0}
-use Rattle.vector.specs.Speakers.{Speaker, slots_of, speakers_in}
+use Rattle.vector.specs.Speakers.{Speaker, slots_of}
 use Rattle.layout_planar.specs.declared.PlanarPair.{PlanarPair}
 use Rattle.layout_planar.specs.Planar.{no_pair, pairs_of}
-use Rattle.layout_record.specs.Shape.{HullShape, numbers, Shape, silent, mono, planar, hull}
-use Rattle.layout_record.specs.Panner.{kind_in, mono_in, pairs_in, slots_in, hull_in, laid}
-use Rattle.layout_record.specs.declared.Kind.{Kind}
-use Rattle.layout_record.specs.declared.Kind.TheVariants.{Silent, Mono, Planar, Hull}
+use Rattle.layout_record.specs.Shape.{HullShape, numbers, silent, mono, planar, hull}
+use Rattle.layout_record.specs.Panner.{kind_in, mono_in, pairs_in, slots_in, hull_in, laid, no_panner}
+use Rattle.layout_record.specs.declared.Kind.TheVariants.{Mono, Planar, Hull}
 use Rattle.layout_record.specs.declared.VbapPanner.{VbapPanner}
-use Rattle.layout_new.specs.Inner.Arrays.{held_in, speakers_of, RingIn, Parts}
 
--- ---- no hull
+-- ---- none active, one, and a ring
 
-pub laid_parts : (n : ℕ) (s : Shape) {k : Kind} {m : ℕ} {act : List Speaker} {np ns : ℕ} {pairs : List PlanarPair} {slots : List ℕ} → Parts s k m act
+pub laid_silent : (n : ℕ) → ◌≡◌ {A = VbapPanner} (record no_panner { num_outputs = n }) (laid (record { outputs = n; shape = silent }))
+unfolding no_panner laid kind_in mono_in pairs_in slots_in hull_in
+laid_silent n = refl
+
+pub laid_mono : (n i : ℕ) → ◌≡◌ {A = VbapPanner} (record no_panner { num_outputs = n; kind = Mono; mono = i }) (laid (record { outputs = n; shape = mono i }))
+unfolding no_panner laid kind_in mono_in pairs_in slots_in hull_in
+laid_mono n i = refl
+
+pub laid_planar : (n : ℕ) (act : List Speaker) {np ns : ℕ} {pairs : List PlanarPair} {slots : List ℕ}
     → np ≡ length (pairs_of act) → pairs ≡ filled 40 no_pair (pairs_of act) → ns ≡ length (slots_of act) → slots ≡ filled 40 0 (slots_of act)
     → ◌≡◌ {A = VbapPanner}
     (record {
       num_outputs = n;
-      kind = k;
-      mono = m;
+      kind = Planar;
+      mono = 0;
       num_pairs = np;
       pairs = pairs;
       num_slots = ns;
@@ -40,28 +45,9 @@ pub laid_parts : (n : ℕ) (s : Shape) {k : Kind} {m : ℕ} {act : List Speaker}
       num_nbrs = replicate 14 0;
       imag_nbrs = replicate 560 0;
     })
-    (laid (record { outputs = n; shape = s }))
-unfolding laid filled flat_map range from
-laid_parts n s p np pairs ns slots = rw (np, pairs, ns, slots, p.kind, p.mono, p.pairs, p.slots, ← p.hull)
-
--- ---- no speakers on the ring
-
-pub no_ring : {dir : List Float} → length dir ≡ 120 → RingIn 0 (replicate 40 0) dir
-unfolding filled slots_of speakers_in range from
-no_ring h = record { few = omega arith; long = h; slots = refl }
-
-module _ (out : List ℕ) (dir : List Float) where
-  pub silent_parts : Parts silent Silent 0 (speakers_of (held_in out dir 0))
-  unfolding kind_in mono_in pairs_in slots_in hull_in speakers_of speakers_in slots_of pairs_of collect range from
-  silent_parts = record { kind = refl; mono = refl; pairs = refl; slots = refl; hull = refl }
-
-  pub mono_parts : (i : ℕ) → Parts (mono i) Mono i (speakers_of (held_in out dir 0))
-  unfolding kind_in mono_in pairs_in slots_in hull_in speakers_of speakers_in slots_of pairs_of collect range from
-  mono_parts i = record { kind = refl; mono = refl; pairs = refl; slots = refl; hull = refl }
-
-pub planar_parts : (act : List Speaker) → Parts (planar (pairs_of act) (slots_of act)) Planar 0 act
-unfolding kind_in mono_in pairs_in slots_in hull_in
-planar_parts act = record { kind = refl; mono = refl; pairs = refl; slots = refl; hull = refl }
+    (laid (record { outputs = n; shape = planar (pairs_of act) (slots_of act) }))
+unfolding laid kind_in mono_in pairs_in slots_in hull_in filled flat_map range from
+laid_planar n act np pairs ns slots = rw (np, pairs, ns, slots)
 
 -- ---- a hull
 

@@ -4,28 +4,27 @@ use mathlib.Core.Path.{◌≡◌, refl, sym, ap, ap₂, ◌∙◌}
 use mathlib.Core.Bool.{Bool, true, false, ◌||◌, not, cond}
 use mathlib.Core.List.{List, [], ◌∷◌, ◌++◌, append-nil, append_assoc, map, flat_map}
 use mathlib.Core.Option.{Option, none, some}
+use Rattle.std.proofs.Common.{Option as Maybe, None, Some}
 use native.Mathlib.Nat.{zero-mul, suc-mul, add_comm}
 use native.Mathlib.Omega.{arith}
-use borrow.Author.Tests.{eqb-true, eq-eqb}
+use borrow.Author.Tests.{eqb-true, eq-eqb, lt-ltb}
 use lib.Dec.{eqb, ltb}
-use lib.Ieee.{Float, nan, le}
+use lib.Ieee.{Float, le}
 use lib.ListN.{length, get_or, set, replicate, length-append, length-map}
 use lib.Seq.{sets}
 use Rattle.lists.specs.Lists.{range, collect, joined, every, member, part, filled}
 use Rattle.lists.proofs.Collect.{collect_append, flat_map_snoc, map_snoc, length_collect}
-use Rattle.lists.proofs.Filled.{set_filled_at, get_d_filled, length_filled}
-use Rattle.lists.proofs.Parts.{three_places, part_row}
+use Rattle.lists.proofs.Filled.{set_filled_at, get_d_filled}
+use Rattle.lists.proofs.Parts.{part_row}
 use Rattle.lists.proofs.Ranges.{range_snoc, length_range, by_places, get_d_map}
-use Rattle.lists.proofs.Tests.{and_left, and_right, every_map}
+use Rattle.lists.proofs.Tests.{and_left, and_right, every_map, every_snoc}
 use Rattle.float_order.specs.Values.{+0, is_finite}
-use Rattle.vector.specs.Vector.{Vector, x, y, z, unit_of, over_of, length_of, shortest, points_in}
+use Rattle.vector.specs.Vector.{Vector, z, unit_of, over_of, length_of, shortest, points_in}
 use Rattle.vector.specs.Speakers.{Speaker, slots_of, dirs_of, speakers_in}
-use Rattle.vector.specs.Inner.Unit.{unit_for}
-use Rattle.vector.specs.declared.Direction.{Direction}
 use Rattle.vector.proofs.Points.{speaker_at as speakerIn, length_speakers}
 use Rattle.layout_planar.specs.Planar.{ring, pair_at, pairs_of}
 use Rattle.layout_new.specs.Layout.{in_slot, speaker_at, level_at, level}
-use Rattle.layout_new.specs.Inner.Arrays.{active_in, speakers_of, Holds, put_of, next_of}
+use Rattle.layout_new.specs.Inner.Arrays.{active_in, speakers_of, Holds, put_of}
 use Rattle.layout_new.specs.Inner.Arrays.{Active}
 
 -- ---- a collection
@@ -56,19 +55,23 @@ pub picked : {A : Type 0} (b : Bool) (v u : A) → cond b none (some v) ≡ some
 picked true v u e = cc
 picked false v u e = cc
 
-pub unit_three : (p u : Vector) → unit_of p ≡ some u → length u ≡ 3
+unit_three : (p u : Vector) → unit_of p ≡ Some u → length u ≡ 3
 unfolding unit_of over_of
-unit_three p u e = ap length (sym (picked (le (length_of p) shortest || not (is_finite (length_of p))) (over_of p (length_of p)) u e))
+unit_three p u = by (le (length_of p) shortest || not (is_finite (length_of p)))
+  where
+    by : (b : Bool) → ◌≡◌ {A = Maybe Vector} (cond b None (Some (over_of p (length_of p)))) (Some u) → length u ≡ 3
+    by true e = cc
+    by false e = let g : over_of p (length_of p) ≡ u = cc in ap length (sym g)
 
-slot_is : (b : Bool) (o : Option Vector) (i : ℕ) (s : Speaker) → cond b none (in_slot i o) ≡ some s → s.slot ≡ i
+slot_is : (b : Bool) (o : Maybe Vector) (i : ℕ) (s : Speaker) → cond b none (in_slot i o) ≡ some s → s.slot ≡ i
 slot_is true o i s e = cc
-slot_is false none i s e = cc
-slot_is false (some u) i s e = cc
+slot_is false None i s e = cc
+slot_is false (Some u) i s e = cc
 
-dir_is : (b : Bool) (o : Option Vector) (i : ℕ) (s : Speaker) → cond b none (in_slot i o) ≡ some s → o ≡ some s.dir
+dir_is : (b : Bool) (o : Maybe Vector) (i : ℕ) (s : Speaker) → cond b none (in_slot i o) ≡ some s → o ≡ Some s.dir
 dir_is true o i s e = cc
-dir_is false none i s e = cc
-dir_is false (some u) i s e = cc
+dir_is false None i s e = cc
+dir_is false (Some u) i s e = cc
 
 module _ (positions : List Float) (lfe : List ℕ) (i : ℕ) where
   pub lfe_none : member i lfe ≡ true → speaker_at positions lfe i ≡ none
@@ -87,17 +90,6 @@ module _ (positions : List Float) (lfe : List ℕ) (i : ℕ) where
   pub active_three : (s : Speaker) → speaker_at positions lfe i ≡ some s → three s ≡ true
   unfolding speaker_at
   active_three s e = eq-eqb _ 3 (unit_three (part 3 positions i) s.dir (dir_is (member i lfe) (unit_of (part 3 positions i)) i s e))
-
--- the two answers of `unit`
-pub unit_some : (o : Option Vector) (d : Direction) → d ≡ unit_for o → d.accepted ≡ true → o ≡ some d.dir
-unfolding unit_for
-unit_some none d e h = cc
-unit_some (some u) d e h = cc
-
-pub unit_none : (o : Option Vector) (d : Direction) → d ≡ unit_for o → d.accepted ≡ false → o ≡ none
-unfolding unit_for
-unit_none none d e h = refl
-unit_none (some u) d e h = cc
 
 -- ---- the flat arrays
 
@@ -126,22 +118,21 @@ same_active : {o p : List ℕ} {d e : List Float} {m n : ℕ} → o ≡ p → d 
     → ◌≡◌ {A = Active} (record { out = o; dir = d; count = m }) (record { out = p; dir = e; count = n })
 same_active a b c = cc
 
--- one more, where there is one
-pub next_active : (act : List Speaker) (o : Option Speaker) → every three act ≡ true → ((s : Speaker) → o ≡ some s → three s ≡ true) → length act < 40
-    → next_of (active_in act) o ≡ active_in (act ++ joined o [])
-unfolding next_of put_of active_in slots_of dirs_of
-next_active act none e t h = ap active_in (sym (append-nil act))
-next_active act (some s) e t h =
+-- one more
+pub put_active : (act : List Speaker) (slot : ℕ) (u : Vector) → every three act ≡ true → length u ≡ 3 → length act < 40
+    → put_of (active_in act) slot u ≡ active_in (act ++ record { slot = slot; dir = u } ∷ [])
+unfolding put_of active_in slots_of dirs_of
+put_active act slot u e t h =
+    let s : Speaker = record { slot = slot; dir = u } in
     let flat : List Float = flat_map (λ d. d) (dirs_of act) in
     let long : length flat ≡ length act * 3 = length_flat 3 (dirs_of act) (dirs_three act e) ∙ ap (λ (k : ℕ). k * 3) (length-map act (λ s. s.dir)) in
-    let slots : set (filled 40 0 (slots_of act)) (length act) s.slot ≡ filled 40 0 (slots_of (act ++ s ∷ [])) =
-    set_filled_at 40 0 (slots_of act) s.slot (omega (arith, length-map act (λ s. s.slot))) refl (sym (length-map act (λ s. s.slot)))
+    let slots : set (filled 40 0 (slots_of act)) (length act) slot ≡ filled 40 0 (slots_of (act ++ s ∷ [])) =
+    set_filled_at 40 0 (slots_of act) slot (omega (arith, length-map act (λ s. s.slot))) refl (sym (length-map act (λ s. s.slot)))
     ∙ ap (filled 40 0) (sym (map_snoc (λ s. s.slot) act s)) in
-    let stored : sets (filled 120 +0 flat) (length act * 3) (x s.dir ∷ y s.dir ∷ z s.dir ∷ []) ≡ filled 120 +0 (flat ++ s.dir) =
-    sets_filled 120 +0 (x s.dir ∷ y s.dir ∷ z s.dir ∷ []) flat (omega arith) refl (sym long)
-    ∙ ap (λ (u : Vector). filled 120 +0 (flat ++ u)) (three_places s.dir nan (eqb-true _ 3 (t s refl))) in
-    let dirs : flat ++ s.dir ≡ flat_map (λ d. d) (dirs_of (act ++ s ∷ [])) =
-    sym (ap (flat_map (λ d. d)) (map_snoc (λ s. s.dir) act s) ∙ flat_map_snoc (λ d. d) (dirs_of act) s.dir) in
+    let stored : sets (filled 120 +0 flat) (length act * 3) u ≡ filled 120 +0 (flat ++ u) =
+    sets_filled 120 +0 u flat (omega arith) refl (sym long) in
+    let dirs : flat ++ u ≡ flat_map (λ d. d) (dirs_of (act ++ s ∷ [])) =
+    sym (ap (flat_map (λ d. d)) (map_snoc (λ s. s.dir) act s) ∙ flat_map_snoc (λ d. d) (dirs_of act) u) in
     same_active slots (stored ∙ ap (filled 120 +0) dirs) (sym (length-append act (s ∷ [])))
 
 -- none yet
@@ -184,9 +175,6 @@ unfolding dirs_of
 flat_length a h =
     length_flat 3 (dirs_of (speakers_of a)) (dirs_three (speakers_of a) h.threes) ∙ ap (λ (k : ℕ). k * 3) (length-map (speakers_of a) (λ s. s.dir) ∙ count_is a)
 
-pub dir_long : (a : Active) → Holds a → length a.dir ≡ 120
-dir_long a h = ap length (dir_holds a h) ∙ length_filled 120 +0 _ (omega (arith, flat_length a h, h.few))
-
 pub dirs_are : (a : Active) → dirs_of (speakers_of a) ≡ points_in a.count a.dir
 unfolding speakers_of speakers_in dirs_of points_in
 dirs_are a = map-map (λ s. s.dir) (speakerIn a.out a.dir) (range a.count)
@@ -228,3 +216,28 @@ level_is a = sym (every_map level_at (λ s. s.dir) (speakers_of a)) ∙ ap (ever
 pub first_slot : (a : Active) → Holds a → 0 < a.count → get_or a.out 0 0 ≡ get_or (slots_of (speakers_of a)) 0 0
 first_slot a h g =
     ap (λ (l : List ℕ). get_or l 0 0) (out_is a h) ∙ get_d_filled 40 0 (slots_of (speakers_of a)) 0 0 (omega (arith, slots_count (speakers_of a), count_is a))
+
+-- one more is held
+module _ (a : Active) (h : Holds a) (slot : ℕ) (u : Vector) (few : a.count < 40) (low : slot < 40) (t : length u ≡ 3) where
+  one_more : put_of a slot u ≡ active_in (speakers_of a ++ record { slot = slot; dir = u } ∷ [])
+  one_more = ap (λ (b : Active). put_of b slot u) h.holds ∙ put_active (speakers_of a) slot u h.threes t (omega (arith, count_is a))
+
+  more_three : every three (speakers_of a ++ record { slot = slot; dir = u } ∷ []) ≡ true
+  more_three = every_snoc three (speakers_of a) (record { slot = slot; dir = u }) ∙ rw (h.threes, eq-eqb (length u) 3 t)
+
+  pub put_speakers : speakers_of (put_of a slot u) ≡ speakers_of a ++ record { slot = slot; dir = u } ∷ []
+  put_speakers = speakers_are (put_of a slot u) _ one_more more_three
+
+  pub put_holds : Holds (put_of a slot u)
+  put_holds =
+      holds_active (put_of a slot u) _ one_more (omega (arith, length-append (speakers_of a) (record { slot = slot; dir = u } ∷ []), count_is a)) more_three
+      (every_snoc (λ s. ltb s.slot 40) (speakers_of a) (record { slot = slot; dir = u }) ∙ rw (h.slots, lt-ltb slot 40 low))
+
+-- none yet
+pub none_held : Holds (record { out = replicate 40 0; dir = replicate 120 +0; count = 0 })
+unfolding every
+none_held = holds_active _ [] none_active (omega arith) refl refl
+
+pub none_speakers : speakers_of (record { out = replicate 40 0; dir = replicate 120 +0; count = 0 }) ≡ []
+unfolding every
+none_speakers = speakers_are _ [] none_active refl

@@ -1,7 +1,8 @@
 -- Document 01, "Layout", first paragraph, and refusals 1, 2 and 4 of "Returned numbers"; source lines 189 to 212 and 364 to 439: VbapPanner::new, build_hull.
 -- Assumes nothing.
-use Rattle.std.specs.Prelude.{ℕ, ◌/◌, ◌%◌, Bool, false, not, cond, List, [], ◌∷◌, map, eqb, ltb, length, Float}
-use Rattle.std.proofs.Math.Option.{Option, none, some}
+use Rattle.std.specs.Prelude.{ℕ, ◌/◌, ◌%◌, Bool, false, not, cond, List, [], ◌∷◌, map, eqb, ltb, length, Option, None, Some, Result, Ok, Err, Float}
+use Rattle.std.proofs.Math.Option as maybe
+use Rattle.std.proofs.Math.Option.{none, some}
 use Rattle.std.specs.Float.{binary32}
 use Rattle.std.specs.Float.Ieee.{le, of_bits}
 use Rattle.lists.specs.Lists.{range, between, collect, every, member, part}
@@ -18,19 +19,21 @@ use Rattle.layout_record.specs.declared.VbapPanner.{VbapPanner}
 use Rattle.layout_record.specs.Shape.{HullShape, numbers, Shape, silent, mono, planar, hull, Layout, imaginary_in}
 use Rattle.layout_record.specs.Panner.{laid, no_panner}
 use Rattle.layout_new.specs.declared.NewPanner.{NewPanner}
+use Rattle.refusals.specs.declared.Refusal.{Refusal}
+use Rattle.refusals.specs.Refusals.{number_of}
 
--- ---- active speakers
+-- ---- active speakers. `Option` is Rust's, as `unit` answers it; `maybe.Option` is the one that `collect` of crate lists takes.
 
 -- positions: three numbers a speaker
 unfoldable pub outputs_of : List Float → ℕ
 outputs_of positions = length positions / 3
 
-abbrev pub in_slot : ℕ → Option Vector → Option Speaker
-in_slot i none = none
-in_slot i (some u) = some (record { slot = i; dir = u })
+abbrev pub in_slot : ℕ → Option Vector → maybe.Option Speaker
+in_slot i None = none
+in_slot i (Some u) = some (record { slot = i; dir = u })
 
 -- a slot that is not LFE, where `unit` accepts its position
-unfoldable pub speaker_at : List Float → List ℕ → ℕ → Option Speaker
+unfoldable pub speaker_at : List Float → List ℕ → ℕ → maybe.Option Speaker
 speaker_at positions lfe i = cond (member i lfe) none (in_slot i (unit_of (part 3 positions i)))
 
 unfoldable pub active : List Float → List ℕ → List Speaker
@@ -89,14 +92,24 @@ new_refusal positions lfe =
     (cond (ltb 40 (outputs_of positions)) 2
     (cond (too_many_triplets (active positions lfe)) 4 0))
 
--- ---- the answer of `new`
+-- ---- the answer of `new`: 0 or the refusal's number, the layout, and how many imaginary points were made
+
+pub record NewAnswer : Type 0 where
+  pub number : ℕ
+  pub panner : VbapPanner
+  pub imaginary : ℕ
+
+-- as a Result gives it
+abbrev pub new_answer : Result NewPanner Refusal → NewAnswer
+new_answer (Ok made) = record { number = 0; panner = made.panner; imaginary = made.imaginary }
+new_answer (Err why) = record { number = number_of why; panner = no_panner; imaginary = 0 }
 
 -- the record that VbapPanner::new makes
 unfoldable pub panner_of : List Float → List ℕ → VbapPanner
 panner_of positions lfe = laid (layout_of positions lfe)
 
 -- beside a refusal the record is all 0, +0 and the crossfade, and the count 0
-unfoldable pub new_of : List Float → List ℕ → NewPanner
+unfoldable pub new_of : List Float → List ℕ → NewAnswer
 new_of positions lfe =
     let why = new_refusal positions lfe in
     cond (eqb why 0)

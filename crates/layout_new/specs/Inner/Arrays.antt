@@ -1,16 +1,11 @@
--- Document 01, "What to write where" (a plain kind beside arrays): active speakers in flat arrays, and the parts of an answer without a hull. Assumes nothing.
-use Rattle.std.specs.Prelude.{ℕ, ◌+◌, ◌*◌, ◌≤◌, ◌≡◌, true, eqb, ltb, Float, length, set}
-use mathlib.Core.List.{List, [], ◌∷◌, flat_map}
-use Rattle.std.proofs.Math.Option.{Option, none, some}
+-- Document 01, "What to write where" (a plain kind beside arrays): active speakers in flat arrays. Assumes nothing.
+use Rattle.std.specs.Prelude.{ℕ, ◌+◌, ◌*◌, ◌≤◌, ◌≡◌, true, eqb, ltb, length, set, Float}
+use mathlib.Core.List.{List, flat_map}
 use Rattle.std.proofs.lemmas.List.Edits.{sets}
 use Rattle.lists.specs.Lists.{filled, every}
 use Rattle.float_order.specs.Values.{+0}
-use Rattle.vector.specs.Vector.{Vector, x, y, z}
+use Rattle.vector.specs.Vector.{Vector}
 use Rattle.vector.specs.Speakers.{Speaker, slots_of, dirs_of, speakers_in}
-use Rattle.layout_planar.specs.Planar.{pairs_of}
-use Rattle.layout_record.specs.Shape.{Shape}
-use Rattle.layout_record.specs.Panner.{kind_in, mono_in, pairs_in, slots_in, no_hull, hull_in}
-use Rattle.layout_record.specs.declared.Kind.{Kind}
 
 -- ---- active speakers: slots, three numbers a direction, and how many; 0 and +0 in the places that they leave. Origin of 40: document 01, refusal 2; of 120: three numbers for each of 40.
 
@@ -36,26 +31,6 @@ pub record Holds (a : Active) : Type 0 where
   pub threes : every (λ s. eqb (length s.dir) 3) (speakers_of a) ≡ true
   pub slots : every (λ s. ltb s.slot 40) (speakers_of a) ≡ true
 
--- one more; one more where there is one
+-- one more
 unfoldable pub put_of : Active → ℕ → Vector → Active
-put_of a slot u = record { out = set a.out a.count slot; dir = sets a.dir (a.count * 3) (x u ∷ y u ∷ z u ∷ []); count = a.count + 1 }
-
-unfoldable pub next_of : Active → Option Speaker → Active
-next_of a none = a
-next_of a (some s) = put_of a s.slot s.dir
-
--- ---- the answer without a hull
-
--- arrays that hold n speakers on a ring: n may be 0 whatever the directions
-pub record RingIn (n : ℕ) (out : List ℕ) (dir : List Float) : Type 0 where
-  pub few : n ≤ 40
-  pub long : length dir ≡ 120
-  pub slots : out ≡ filled 40 0 (slots_of (speakers_in n out dir))
-
--- a shape without a hull, by its kind, its mono slot and the speakers on its ring
-pub record Parts (s : Shape) (k : Kind) (m : ℕ) (act : List Speaker) : Type 0 where
-  pub kind : k ≡ kind_in s
-  pub mono : m ≡ mono_in s
-  pub pairs : pairs_of act ≡ pairs_in s
-  pub slots : slots_of act ≡ slots_in s
-  pub hull : no_hull ≡ hull_in s
+put_of a slot u = record { out = set a.out a.count slot; dir = sets a.dir (a.count * 3) u; count = a.count + 1 }
