@@ -1,6 +1,5 @@
 -- A direction that `unit` accepts has three numbers of at most 1 in size: of 32-bit numbers the squares are exact, a sum is no smaller than one of them, and so the length no smaller than the number. Assumes nothing.
-use Rattle.std.proofs.Common.{◌≡◌, ℕ, ◌*◌, ◌^◌, ◌<◌, ◌≤◌, Bool, true, false, cond, not, ◌||◌, T, [], ◌∷◌, length, sym, refl, subst, inl, inr, zero-le, le_trans, le_of_eq, le-add_right, lt_of_le_of_lt, add-le-add, mul-le-mul_right, mul_comm, eq-zero-or-pos, le-add_left, arith, lit<, lit≤, T_not}
-use mathlib.Core.Option.{none, some}
+use Rattle.std.proofs.Common.{◌≡◌, ℕ, ◌*◌, ◌^◌, ◌<◌, ◌≤◌, Bool, true, false, cond, not, ◌||◌, T, [], ◌∷◌, length, sym, refl, subst, inl, inr, zero-le, le_trans, le_of_eq, le-add_right, lt_of_le_of_lt, add-le-add, mul-le-mul_right, mul_comm, eq-zero-or-pos, le-add_left, arith, lit<, lit≤, T_not, None, Some, IfSome}
 use lib.Ieee.{Float, binary32, binary64, unlike, add, mul, div, le, fits, of_bits}
 use lib.Ieee.Fits.{add-fits}
 use lib.Ieee.Scale.{finite}
@@ -13,7 +12,7 @@ use Rattle.float_bounds.proofs.Compare.{val_le, not_le_val}
 use Rattle.float_bounds.proofs.Finite.{finite_is, add_finite, square_finite, sqrt_finite}
 use Rattle.float_bounds.proofs.Square.{SquareOf, square_of_lem}
 use Rattle.float_bounds.proofs.Root.{RootOf, sqrt_val, sqrt_zero}
-use Rattle.lists.proofs.Each.{Some, each_get_d}
+use Rattle.lists.proofs.Each.{each_get_d}
 use Rattle.lists.specs.Lists.{Each}
 
 -- 1, in smallest values
@@ -98,7 +97,7 @@ finite_three a b c h =
     let j = add_finite binary64 (mul binary64 a a) (mul binary64 b b) i.0 in
     (square_finite binary64 a j.0, square_finite binary64 b j.1, square_finite binary64 c i.1)
 
-pub unit_direction : (d : Vector) → length d ≡ 3 → Each Fits d → Some Direction (unit_of d)
+pub unit_direction : (d : Vector) → length d ≡ 3 → Each Fits d → IfSome (unit_of d) Direction
 unfolding unit_of
 unit_direction [] e h = absurd (omega arith)
 unit_direction (a ∷ []) e h = absurd (omega arith)
@@ -106,7 +105,7 @@ unit_direction (a ∷ (b ∷ [])) e h = absurd (omega arith)
 unit_direction (a ∷ (b ∷ (c ∷ []))) e h = by (le (length_of (a ∷ b ∷ c ∷ [])) shortest) (is_finite (length_of (a ∷ b ∷ c ∷ []))) (λ g. g) (λ g. g)
   where
     by : (s f : Bool) → (T (not s) → T (not (le (length_of (a ∷ b ∷ c ∷ [])) shortest))) → (T f → T (is_finite (length_of (a ∷ b ∷ c ∷ []))))
-        → Some Direction (cond (s || not f) none (some (over_of (a ∷ b ∷ c ∷ []) (length_of (a ∷ b ∷ c ∷ [])))))
+        → IfSome (cond (s || not f) None (Some (over_of (a ∷ b ∷ c ∷ []) (length_of (a ∷ b ∷ c ∷ []))))) Direction
     by true f k g = tt
     by false false k g = tt
     by false true k g =

@@ -1,5 +1,6 @@
 -- The active speakers: slots in rising order, below the count of outputs, none of them LFE, and directions. Assumes nothing.
-use Rattle.std.proofs.Common.{◌≡◌, ℕ, zero, suc, ◌<◌, ◌≤◌, Bool, true, false, cond, T, eqb, List, sym, refl, ◌∙◌, arith, ne_eqb}
+use Rattle.std.proofs.Common.{◌≡◌, ℕ, zero, suc, ◌<◌, ◌≤◌, Bool, true, false, cond, T, eqb, List, sym, refl, ◌∙◌, arith, ne_eqb, IfSome}
+use Rattle.std.proofs.Common.{Option as Maybe, None, Some as Yes}
 use mathlib.Core.Option.{Option, none, some}
 use lib.Ieee.{Float, binary32, fits}
 use Rattle.lists.specs.Lists.{from, range, collect, joined, member, part, Each, Once}
@@ -24,12 +25,12 @@ module _ (positions : List Float) (lfe : List ℕ) where
       by (member i lfe) refl (unit_of (part 3 positions i)) refl
       (unit_direction (part 3 positions i) (length_part 3 positions i (omega arith)) (each_part (λ v. T (fits binary32 v)) 3 positions i h))
     where
-      by : (b : Bool) → member i lfe ≡ b → (o : Option Vector) → unit_of (part 3 positions i) ≡ o → Some Direction o → Some (ActiveSpeaker positions lfe) (cond b none (in_slot i o))
+      by : (b : Bool) → member i lfe ≡ b → (o : Maybe Vector) → unit_of (part 3 positions i) ≡ o → IfSome o Direction → Some (ActiveSpeaker positions lfe) (cond b none (in_slot i o))
       by true e o g d = tt
-      by false e none g d = tt
-      by false e (some u) g d = record { at = record { low = l; not_lfe = e; accepted = λ n. some_none (sym g ∙ n) }; unit = d }
+      by false e None g d = tt
+      by false e (Yes u) g d = record { at = record { low = l; not_lfe = e; accepted = λ n. some_none (sym g ∙ n) }; unit = d }
         where
-          some_none : {u : Vector} → some u ≡ none → ⊥
+          some_none : {u : Vector} → Yes u ≡ None → ⊥
           some_none e = let z : ◌≡◌ {A = ℕ} 0 1 = cc in omega arith
 
   pub active_each : Each (λ v. T (fits binary32 v)) positions → Each (ActiveSpeaker positions lfe) (active positions lfe)
@@ -43,10 +44,10 @@ module _ (positions : List Float) (lfe : List ℕ) where
   unfolding speaker_at
   in_place i = by (member i lfe) (unit_of (part 3 positions i))
     where
-      by : (b : Bool) (o : Option Vector) → Some (λ s. s.slot ≡ i) (cond b none (in_slot i o))
+      by : (b : Bool) (o : Maybe Vector) → Some (λ s. s.slot ≡ i) (cond b none (in_slot i o))
       by true o = tt
-      by false none = tt
-      by false (some u) = refl
+      by false None = tt
+      by false (Yes u) = refl
 
   some_imply : (P Q : Speaker → Type 0) → ((s : Speaker) → P s → Q s) → (o : Option Speaker) → Some P o → Some Q o
   some_imply P Q k none h = tt

@@ -1,7 +1,6 @@
 -- Document 01, "Layout", and "The buyer's note on promises" ("a layout from open gives no NaN"): what is true of every layout that `new` makes.
 -- The statements, at the end: `LayoutSound` is proved by `layout_sound`, `PannerNoNan` by `panner_no_nan`, `SlotsActive` by `slots_active`, `LfeUnused` by `lfe_unused` (proofs/Layouts.antt). Assumes nothing.
-use Rattle.std.specs.Prelude.{◌≡◌, ℕ, ◌+◌, ◌<◌, ◌≤◌, true, false, not, T, List, [], ◌∷◌, length, pos, from_bits, is_nan, Float}
-use Rattle.std.proofs.Math.Option.{none}
+use Rattle.std.specs.Prelude.{◌≡◌, ℕ, ◌+◌, ◌<◌, ◌≤◌, true, false, not, T, List, [], ◌∷◌, length, None, pos, from_bits, is_nan, Float}
 use Rattle.std.specs.Float.{fin, binary32}
 use Rattle.std.specs.Float.Ieee.{fits, le}
 use Rattle.lists.specs.Lists.{Each, member, part, Once}
@@ -104,7 +103,7 @@ Sound outputs (hull h) = SoundHull outputs h
 pub record Active (positions : List Float) (lfe : List ℕ) (o : ℕ) : Type 0 where
   pub low : o < outputs_of positions
   pub not_lfe : member o lfe ≡ false
-  pub accepted : unit_of (part 3 positions o) ≡ none → ⊥
+  pub accepted : unit_of (part 3 positions o) ≡ None → ⊥
 
 -- ---- no NaN in any float of the record
 
