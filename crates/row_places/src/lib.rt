@@ -9,17 +9,14 @@ ghost use Rattle.row_places.specs.Places.{add_at};
 pub fn zero(row: &mut [f32])
     ensures { row.new ≡ replicate (length row.old) +0 }
 {
-    let mut i: usize = 0;
-    while i < row.len() {
-        row[i] = 0.0;
-        i += 1;
-    }
+    row.fill(0.0);
 }
 
 // The gain v in one place.
 pub fn put(row: &mut [f32], slot: u8, v: f32)
     ensures { row.new ≡ set row.old slot v }
 {
+    // not by `get_mut`: after it a proof knows a slice's length and none of its elements
     let i = slot as usize;
     if i < row.len() {
         row[i] = v;
@@ -27,11 +24,13 @@ pub fn put(row: &mut [f32], slot: u8, v: f32)
 }
 
 // The gain v added to what one place has.
+#[tactic(auto, unfolding(crate::specs::Places::add_at))]
 pub fn add_at(row: &mut [f32], slot: u8, v: f32)
     ensures { row.new ≡ add_at row.old slot v }
 {
+    // not by `get_mut`, as `put`
     let i = slot as usize;
     if i < row.len() {
-        row[i] = row[i] + v;
+        row[i] += v;
     }
 }
