@@ -3,12 +3,11 @@ use Prim.Native.Nat.{ℕ, ◌*◌, ◌≤◌, ◌<◌}
 use mathlib.Core.Path.{◌≡◌, refl, sym, ap, ap₂, ◌∙◌}
 use mathlib.Core.Bool.{Bool, true, false, ◌&&◌, ◌||◌, not, true≢false}
 use mathlib.Core.List.{List}
-use mathlib.Core.Logic.{inl, inr, ⊎_elim}
+use mathlib.Core.Logic.{⊎_elim}
 use native.Mathlib.Omega.{arith}
 use borrow.Author.Tests.{lt-ltb, le-ltb, ltb-true, ltb-false, eq-eqb}
 use lib.Dec.{ltb}
-use lib.ListN.{length, get_or, take}
-use lib.Seq.{get_or-take, length-take-le}
+use lib.ListN.{length, get_or}
 use lib.Ieee.{Float, nan, inf, fin, up, down, is_nan, lt, ne, eq}
 use Rattle.lists.specs.Lists.{every, position}
 use Rattle.lists.proofs.Tests.{and_comm, every_at}
@@ -80,7 +79,7 @@ module _ (l : List Float) (g : Float) (t : Top l 0 (length l) g) (high : lt (inf
 
   -- the first that is not passed
   module _ (i : ℕ) (k : FirstKept g l (length l) i) where
-    inside : i < length l
+    pub inside : i < length l
     inside = by (ltb i (length l)) refl
       where
         by : (q : Bool) → ltb i (length l) ≡ q → i < length l
@@ -109,27 +108,3 @@ unfolding first_greatest is_greatest
 found_none d l g t low =
     let e : position (is_greatest l) l ≡ length l = position_none (is_greatest l) nan l (λ j h. rw (none_high l g t low j h) refl) in
     sym (rw (e, le-ltb (length l) (length l) (omega arith)) refl)
-
--- ---- of the first n numbers of an array
-
-module _ (l : List Float) (n : ℕ) (h : n ≤ length l) where
-  same : (j : ℕ) → j < n → get_or (take n l) j nan ≡ get_or l j nan
-  same j k = get_or-take n l j nan k
-
-  long : length (take n l) ≡ n
-  long = length-take-le n l h
-
-  pub top_take : (g : Float) → Top l 0 n g → Top (take n l) 0 (length (take n l)) g
-  top_take g t =
-      rw long (record {
-        none_above = λ j p q. ap (lt g) (same j q) ∙ t.none_above j p q;
-        held = ⊎_elim (λ e. inl e) (λ s. inr (record { place = s.place; from = s.from; to = s.to; is = same s.place s.to ∙ s.is; high = s.high })) t.held;
-      })
-
-  pub kept_take : (g : Float) (i : ℕ) → FirstKept g l n i → FirstKept g (take n l) (length (take n l)) i
-  kept_take g i k =
-      rw long (record {
-        within = k.within;
-        before = λ j p q. ap (passed g) (same j (let w = k.within in omega arith)) ∙ k.before j p q;
-        kept = λ q. ap (passed g) (same i q) ∙ k.kept q;
-      })

@@ -1,6 +1,6 @@
 -- The greatest number of a list: one number after the other, of two parts, and in eight lanes. What is not above one of two numbers is not above the greater. Assumes nothing.
-use Prim.Native.Nat.{ℕ, ◌+◌, ◌%◌, ◌≤◌, ◌<◌}
-use mathlib.Core.Path.{◌≡◌, refl, sym, subst}
+use Prim.Native.Nat.{ℕ, ◌+◌, ◌-◌, ◌%◌, ◌≤◌, ◌<◌}
+use mathlib.Core.Path.{◌≡◌, refl, sym, subst, ◌∙◌}
 use mathlib.Core.Bool.{Bool, true, false}
 use mathlib.Core.List.{List}
 use mathlib.Core.Logic.{inl, inr, ⊎_elim}
@@ -9,7 +9,8 @@ use native.Mathlib.Omega.{arith}
 use borrow.Author.Count.{below_more}
 use borrow.Author.Tests.{ltb-true, ltb-false, eqb-true, eqb-false}
 use lib.Dec.{ltb, eqb}
-use lib.ListN.{length, get_or, set, replicate, get_or-replicate}
+use lib.ListN.{length, get_or, set, drop, replicate, get_or-replicate, length-set}
+use Rattle.std.proofs.lemmas.List.{get_or-drop, length-drop}
 use lib.Seq.{get_or-set_same, get_or-set_other}
 use lib.Ieee.{Float, nan, inf, is_nan, lt}
 use Rattle.angle_sort.proofs.Angles.{float_lt_self}
@@ -70,6 +71,17 @@ module _ (l : List Float) where
         held = held_more a i g h t.held;
       }
 
+  -- of the numbers behind the first n
+  pub top_drop : (n : ℕ) (g : Float) → n ≤ length l → Top (drop n l) 0 (length (drop n l)) g → Top l n (length l) g
+  top_drop n g h t =
+      let long : length (drop n l) ≡ length l - n = length-drop n l in
+      record {
+        none_above = λ j p q.
+            let e : n + (j - n) ≡ j = omega arith in
+            rw (get_or-drop n l (j - n) nan, e) at (t.none_above (j - n) (omega arith) (omega arith));
+        held = ⊎_elim (λ e. inl e) (λ s. inr (record { place = n + s.place; from = omega arith; to = omega (arith, s.to); is = sym (get_or-drop n l s.place nan) ∙ s.is; high = s.high })) t.held;
+      }
+
   -- of two parts, one behind the other
   pub top_join : (a b c : ℕ) (g h : Float) → a ≤ b → b ≤ c → Top l a b g → Top l b c h → Top l a c (greater_of g h)
   top_join a b c g h ab bc t u =
@@ -96,26 +108,27 @@ set_by P b k j x h here there = by (eqb j k) refl
 
 module _ (l : List Float) where
   pub lanes_none : Lanes l 0 (replicate 8 (inf true))
-  lanes_none = record { none_above = λ j h. absurd (not-suc-le-zero h); held = λ k h. inl (get_or-replicate 8 k (inf true) nan h) }
+  lanes_none = record { long = refl; none_above = λ j h. absurd (not-suc-le-zero h); held = λ k h. inl (get_or-replicate 8 k (inf true) nan h) }
 
   -- place i goes to lane k
-  pub lanes_more : (i k : ℕ) (b : List Float) → length b ≡ 8 → i % 8 ≡ k → Lanes l i b → Lanes l (i + 1) (set b k (greater_of (get_or b k nan) (get_or l i nan)))
-  lanes_more i k b long lane a =
+  pub lanes_more : (i j k : ℕ) (b : List Float) (m : Float) → j ≡ i + 1 → i % 8 ≡ k → m ≡ greater_of (get_or b k nan) (get_or l i nan) → Lanes l i b → Lanes l j (set b k m)
+  lanes_more i j k b m next lane is a =
       let x = get_or l i nan in
-      let m = greater_of (get_or b k nan) x in
       let h : k < 8 = omega arith in
-      let w : k < length b = omega arith in
-      record {
+      let w : k < length b = omega (arith, a.long) in
+      rw (next, is) (record {
+        long = length-set b k (greater_of (get_or b k nan) x) ∙ a.long;
         none_above =
-            below_more (λ j. lt (get_or (set b k m) (j % 8) nan) (get_or l j nan) ≡ false) i
-            (λ j q. set_by (λ v. lt v (get_or l j nan) ≡ false) b k (j % 8) m w (λ e. greater_keeps (get_or b k nan) x (get_or l j nan) (rw e at (a.none_above j q))) (a.none_above j q))
-            (rw (lane, get_or-set_same b k m nan w) (greater_takes (get_or b k nan) x));
-        held = λ j q. set_by (Held l 0 (i + 1)) b k j m w (λ e. held_more l 0 i (get_or b k nan) (omega arith) (a.held k h)) (held_wider l 0 i 0 (i + 1) (get_or b j nan) (omega arith) (omega arith) (a.held j q));
-      }
+            below_more (λ j. lt (get_or (set b k (greater_of (get_or b k nan) x)) (j % 8) nan) (get_or l j nan) ≡ false) i
+            (λ j q. set_by (λ v. lt v (get_or l j nan) ≡ false) b k (j % 8) (greater_of (get_or b k nan) x) w (λ e. greater_keeps (get_or b k nan) x (get_or l j nan) (rw e at (a.none_above j q))) (a.none_above j q))
+            (rw (lane, get_or-set_same b k (greater_of (get_or b k nan) x) nan w) (greater_takes (get_or b k nan) x));
+        held = λ j q. set_by (Held l 0 (i + 1)) b k j (greater_of (get_or b k nan) x) w (λ e. held_more l 0 i (get_or b k nan) (omega arith) (a.held k h)) (held_wider l 0 i 0 (i + 1) (get_or b j nan) (omega arith) (omega arith) (a.held j q));
+      })
 
   -- the greatest of the lanes
-  pub lanes_top : (n : ℕ) (b : List Float) (g : Float) → Lanes l n b → Top b 0 8 g → Top l 0 n g
-  lanes_top n b g a t =
+  pub lanes_top : (n : ℕ) (b : List Float) (g : Float) → Lanes l n b → Top b 0 (length b) g → Top l 0 n g
+  lanes_top n b g a u =
+      let t = rw a.long at u in
       record {
         none_above = λ j p q.
             let h : j % 8 < 8 = omega arith in

@@ -1,5 +1,5 @@
 -- What the parts of the search promise one another. Origin of 8: two vectors of four 32-bit floats, which the compiler compares at once; the search's result does not depend on it. Assumes nothing.
-use Rattle.std.specs.Prelude.{ℕ, ◌%◌, ◌≤◌, ◌<◌, ◌≡◌, Bool, true, false, ◌||◌, cond, List, ◌⊎◌, get_or, Float}
+use Rattle.std.specs.Prelude.{ℕ, ◌%◌, ◌≤◌, ◌<◌, ◌≡◌, Bool, true, false, ◌||◌, cond, List, ◌⊎◌, length, get_or, Float}
 use Rattle.std.specs.Float.{nan, inf}
 use Rattle.std.specs.Float.Ieee.{lt, ne}
 
@@ -30,6 +30,7 @@ pub record Top (l : List Float) (a b : ℕ) (g : Float) : Type 0 where
 --   lane   0 1 2 3 4 5 6 7 | 0 1  2  3  4  5  6  7 |  rest
 -- of the first n numbers none is above its lane, and each lane is one of them; or −∞
 pub record Lanes (l : List Float) (n : ℕ) (lanes : List Float) : Type 0 where
+  pub long : length lanes ≡ 8
   pub none_above : (j : ℕ) → j < n → lt (get_or lanes (j % 8) nan) (get_or l j nan) ≡ false
   pub held : (k : ℕ) → k < 8 → Held l 0 n (get_or lanes k nan)
 
