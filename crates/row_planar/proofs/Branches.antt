@@ -1,66 +1,49 @@
 -- The branches of the row's definitions, from what each test says. Assumes nothing.
-use Rattle.std.proofs.Common.{◌≡◌, ℕ, ◌+◌, ◌-◌, ◌<◌, ◌≤◌, Bool, true, false, cond, List, length, get_or, take, drop, set, replicate, sym, refl, ap, ◌∙◌, arith, length-take-le, get_or-take}
-use lib.Ieee.{Float, nan, binary32, add, mul, div, lt}
-use Rattle.lists.specs.Lists.{is_empty, first_that, last}
+use Rattle.std.proofs.Common.{◌≡◌, ℕ, zero, suc, ◌-◌, ◌<◌, ◌≤◌, Bool, true, false, cond, eqb, Option, None, Some, List, length, get_or, set, replicate, sym, refl, ap, ◌∙◌, arith}
+use Rattle.std.specs.List.{slice_get}
+use Rattle.std.proofs.lemmas.List.{get_or_default}
+use Rattle.std.proofs.lemmas.Option.{slice_get_past, slice_get-get_or}
+use borrow.Author.Tests.{ne_eqb}
+use lib.Ieee.{Float, binary32, add, mul, div, lt}
+use Rattle.lists.specs.Lists.{is_empty}
 use Rattle.float_order.specs.Values.{+0}
 use Rattle.float_order.specs.Order.{square_of}
 use Rattle.float_root.specs.Root.{sqrt_of}
-use Rattle.layout_planar.specs.declared.Law.{Law}
-use Rattle.layout_planar.specs.declared.Law.TheVariants.{Inverse, Crossfade}
 use Rattle.layout_planar.specs.declared.PlanarPair.{PlanarPair}
 use Rattle.layout_planar.specs.Planar.{no_pair}
 use Rattle.row_places.specs.Places.{add_at}
-use Rattle.row_planar.specs.PlanarRow.{least_pair_norm, Two, rel, contains, chosen, by_inverse, by_crossfade, by_law, planar_spread, spread, pair_row, planar_row}
-use Rattle.lists.proofs.Search.{first_here, first_on, first_end}
-use Rattle.lists.proofs.Ends.{last_at}
-use Rattle.lists.proofs.Tests.{cond_yes, cond_no}
+use Rattle.row_planar.specs.PlanarRow.{least_pair_norm, Two, contains, chosen, by_law, planar_spread, spread, pair_row, planar_row}
+use Rattle.row_planar.specs.Meaning.{pair_at}
+use Rattle.row_planar.proofs.Meaning.{chosen_first, chosen_last}
+use Rattle.lists.proofs.Tests.{cond_yes, cond_no, empty_length}
 
 -- ---- the chosen pair
 
--- what the machine reads past the end of an array of pairs
-abbrev past : PlanarPair
-past = record { start = nan; gap = nan; a = 0; b = 0; law = Inverse nan nan nan nan }
+-- no pair before place i contains the azimuth
+abbrev pub NoneBefore : Float → List PlanarPair → ℕ → Type 0
+NoneBefore az pairs i = (k : ℕ) → k < i → contains az (pair_at pairs k) ≡ false
 
--- the first n pairs of an array of any length
-module _ (az : Float) (pairs : List PlanarPair) (n : ℕ) where
-  abbrev test : PlanarPair → Bool
-  test = contains az
+module _ (az : Float) (pairs : List PlanarPair) where
+  abbrev answer : Option PlanarPair
+  answer = cond (is_empty pairs) None (Some (chosen az pairs))
 
-  -- before turn i: what is found from there on is what is found of all
-  abbrev pub Found : ℕ → Type 0
-  Found i = first_that test (drop i (take n pairs)) (last (take n pairs) no_pair) ≡ chosen az (take n pairs)
+  some_pair : 0 < length pairs → answer ≡ Some (chosen az pairs)
+  some_pair h = cond_no None (Some (chosen az pairs)) (empty_length pairs ∙ ne_eqb (length pairs) 0 (λ e. omega arith))
 
-  pub found_start : Found 0
-  unfolding chosen
-  found_start = refl
+  module _ (i : ℕ) (d : PlanarPair) (h : i < length pairs) (b : NoneBefore az pairs i) where
+    same : get_or pairs i d ≡ pair_at pairs i
+    same = get_or_default pairs i d no_pair h
 
-  module _ (i : ℕ) (fits : n ≤ length pairs) (f : Found i) where
-    pub found_here : i < n → test (get_or pairs i past) ≡ true → get_or pairs i past ≡ chosen az (take n pairs)
-    found_here h e = sym (first_here test pairs n i past h fits (last (take n pairs) no_pair) e) ∙ f
+    pub found_here : contains az (get_or pairs i d) ≡ true → Some (get_or pairs i d) ≡ answer
+    found_here e = ap Some (same ∙ sym (chosen_first az pairs i h (rw same at e) b)) ∙ sym (some_pair (omega arith))
 
-    pub found_on : i < n → test (get_or pairs i past) ≡ false → Found (i + 1)
-    found_on h e = sym (first_on test pairs n i past h fits (last (take n pairs) no_pair) e) ∙ f
-
-    -- at the end it is the last of them
-    pub found_last : 0 < n → n ≤ i → get_or pairs (n - 1) past ≡ chosen az (take n pairs)
-    found_last some h =
-        let long : length (take n pairs) ≡ n = length-take-le n pairs fits in
-        sym
-        (first_end test pairs n i (last (take n pairs) no_pair) h fits
-        ∙ last_at (take n pairs) no_pair past (omega arith)
-        ∙ rw (long, get_or-take n pairs (n - 1) past (omega arith)) refl)
-        ∙ f
-
--- ---- the law of a pair
-
-module _ (az : Float) (p : PlanarPair) {law : Law} where
-  pub law_inverse : (m0 m1 m2 m3 : Float) → law ≡ Inverse m0 m1 m2 m3 → by_inverse az m0 m1 m2 m3 ≡ by_law az p law
-  unfolding by_law
-  law_inverse m0 m1 m2 m3 e = rw e
-
-  pub law_crossfade : law ≡ Crossfade → by_crossfade (rel az p) p.gap ≡ by_law az p law
-  unfolding by_law
-  law_crossfade e = rw e
+  pub found_last : (i : ℕ) → length pairs ≤ i → NoneBefore az pairs i → slice_get pairs (length pairs - 1) ≡ answer
+  found_last i h b = by (length pairs) refl
+    where
+      by : (n : ℕ) → length pairs ≡ n → slice_get pairs (length pairs - 1) ≡ answer
+      by zero e = slice_get_past pairs (length pairs - 1) (omega arith) ∙ sym (cond_yes None (Some (chosen az pairs)) (empty_length pairs ∙ ap (λ (k : ℕ). eqb k 0) e))
+      by (suc n) e =
+          slice_get-get_or pairs (length pairs - 1) no_pair (omega arith) ∙ ap Some (sym (chosen_last az pairs (omega arith) (λ j k. b j (omega arith)))) ∙ sym (some_pair (omega arith))
 
 -- ---- the row of a pair
 
@@ -91,18 +74,19 @@ module _ (n : ℕ) (el : Float) (p : PlanarPair) (g : Two) (slots : List ℕ) wh
 
 -- ---- the row of a layout
 
-pub two_same : (g : Two) {x y : Float} → x ≡ g.ga → y ≡ g.gb → ◌≡◌ {A = Two} (record { ga = x; gb = y }) g
-two_same g e f = rw (e, f)
-
 module _ (n : ℕ) (az el : Float) (pairs : List PlanarPair) (slots : List ℕ) where
-  pub planar_silent : is_empty pairs ≡ true → replicate n +0 ≡ planar_row n az el pairs slots
+  pub planar_silent : None ≡ cond (is_empty pairs) None (Some (chosen az pairs)) → replicate n +0 ≡ planar_row n az el pairs slots
   unfolding planar_row
-  planar_silent h = rw h
+  planar_silent = by (is_empty pairs) refl
+    where
+      by : (e : Bool) → is_empty pairs ≡ e → None ≡ cond e None (Some (chosen az pairs)) → replicate n +0 ≡ planar_row n az el pairs slots
+      by true e h = rw e
+      by false e h = cc
 
-  pub planar_sounds : {p : PlanarPair} {g : Two} → p ≡ chosen az pairs → g ≡ by_law az p p.law → is_empty pairs ≡ false
-      → pair_row n el p g slots ≡ planar_row n az el pairs slots
+  pub planar_sounds : {p : PlanarPair} → Some p ≡ cond (is_empty pairs) None (Some (chosen az pairs)) → pair_row n el p (by_law az p p.law) slots ≡ planar_row n az el pairs slots
   unfolding planar_row
-  planar_sounds {p} {g} ep eg h =
-      ap (λ (q : Two). pair_row n el p q slots) eg
-      ∙ ap (λ (q : PlanarPair). pair_row n el q (by_law az q q.law) slots) ep
-      ∙ rw h
+  planar_sounds {p} = by (is_empty pairs) refl
+    where
+      by : (e : Bool) → is_empty pairs ≡ e → Some p ≡ cond e None (Some (chosen az pairs)) → pair_row n el p (by_law az p p.law) slots ≡ planar_row n az el pairs slots
+      by true e h = cc
+      by false e h = let k : p ≡ chosen az pairs = cc in rw (e, k)

@@ -19,6 +19,7 @@ use Rattle.layout_planar.specs.declared.Law.TheVariants.{Inverse, Crossfade}
 use Rattle.layout_planar.specs.declared.PlanarPair.{PlanarPair}
 use Rattle.layout_planar.specs.Planar.{no_pair}
 use Rattle.row_places.specs.Places.{add_at}
+use Rattle.row_planar.specs.declared.PairGains.{PairGains}
 
 -- ---- constants in 32 bits
 
@@ -50,9 +51,8 @@ unfoldable pub chosen : Float → List PlanarPair → PlanarPair
 chosen az pairs = first_that (contains az) pairs (last pairs no_pair)
 
 -- the gains of a and b, before they are scaled
-pub record Two : Type 0 where
-  pub ga : Float
-  pub gb : Float
+abbrev pub Two : Type 0
+Two = PairGains
 
 -- the direction times the inverse; nothing below +0
 unfoldable pub by_inverse : Float → Float → Float → Float → Float → Two

@@ -1,12 +1,11 @@
--- `row_planar::chosen_pair` meets its contract: where there are at most eight pairs, the first eight hold them all. Assumes nothing.
-use Rattle.lists.specs.Lists.{from, range}
-use Rattle.lists.proofs.Ranges.{take_front}
-use Rattle.row_planar.specs.PlanarRow.{chosen}
-use Rattle.std.proofs.Common.{ap, ◌∙◌, arith}
+use Rattle.std.proofs.Common.{sym, ◌∙◌}
+use Rattle.row_planar.proofs.Branches.{found_here, found_last}
 use Rattle.row_planar.proofs.chosen_pair.Goals as goal
 
-pub returns-then-n-le8 : goal.returns-then-n-le8
-unfolding range from
-returns-then-n-le8 c =
+pub returns-then-is_inside : goal.returns-then-is_inside
+returns-then-is_inside c =
     let a = c.args in
-    c.chosen_of_few.ensures ∙ ap (chosen a.az) (take_front a.pairs _ 8 a.n c.if-n-le8.true (omega (arith, c.well_formed.0.1.0.1)))
+    found_here a.az a.pairs.now c.loop-p.p-index _ c.loop-p-test.true c.loop-p.invariant (sym c.is_inside.ensures ∙ c.if-is_inside.true)
+
+pub returns : goal.returns
+returns c = c.last.ensures.value ∙ found_last c.args.az c.args.pairs.now c.loop-p.p-index c.loop-p-test.false c.loop-p.invariant
