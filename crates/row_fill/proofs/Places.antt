@@ -1,69 +1,41 @@
 -- Laws of the steps: a gain in a slot, in a sum, shared out from the front. Each goes place by place. Assumes nothing.
-use Prim.Native.Nat.{ℕ, zero, suc, ◌+◌, ◌-◌, ◌*◌, ◌≤◌, ◌<◌, min}
+use Prim.Native.Nat.{ℕ, zero, suc, ◌+◌, ◌-◌, ◌*◌, ◌≤◌, ◌<◌}
 use mathlib.Core.Bool.{Bool, true, false, ◌&&◌, not}
 use mathlib.Core.Path.{◌≡◌, refl, sym, ap, ◌∙◌, subst}
 use mathlib.Core.List.{List}
 use native.Mathlib.Numerals.{add-one}
 use native.Mathlib.Omega.{arith}
 use lib.ListN.{length, get_or, take, drop, replicate, get_or-replicate, get_or-eq_default}
-use lib.Seq.{take-suc, length-take-le, get_or-take}
+use lib.Seq.{length-take-le, take-take}
 use lib.Dec.{eqb, ltb}
 use lib.Ieee.{Float, nan, binary32, div, lt}
-use borrow.Author.Tests.{lt-ltb, le-ltb, ltb-true, ltb-false}
+use borrow.Author.Tests.{lt-ltb, ltb-true, ltb-false}
 use Rattle.lists.specs.Lists.{is_empty, part}
 use Rattle.lists.proofs.Tests.{and_left, and_right, empty_length}
-use Rattle.lists.proofs.Collect.{foldl_snoc}
 use Rattle.row_fill.proofs.Folds.{fold_none, fold_more}
 use Rattle.float_order.specs.Values.{+0, count32}
 use Rattle.float_root.specs.Root.{sqrt_of}
-use Rattle.float_order.specs.Order.{max_of}
-use Rattle.row_places.specs.Places.{add_at}
-use Rattle.row_fill.specs.Inner.Filling.{to_real, to_imag, is_real, real_points, imag_points, add_each, shared_by, shared_at, shared_out, placed}
+use Rattle.layout_record.specs.declared.VbapPanner.{VbapPanner}
+use Rattle.row_fill.specs.Inner.Filling.{to_imag, is_real, real_points, imag_points, add_each, shared_by, shared_at, shared_out, placed}
 
--- ---- gains added in the places of slots
+-- ---- a gain to an imaginary point, or none
 
-pub each_none : (w : Float) (row : List Float) (slots : List ℕ) → row ≡ add_each w row (take 0 slots)
-unfolding add_each
-each_none w row slots = refl
-
-pub each_more : (w : Float) (row : List Float) (slots : List ℕ) (j : ℕ) → j < length slots
-    → add_at (add_each w row (take j slots)) (get_or slots j 0) w ≡ add_each w row (take (j + 1) slots)
-unfolding add_each
-each_more w row slots j h =
-    rw (add-one, take-suc slots j 0 h) (sym (foldl_snoc (λ r o. add_at r o w) row (take j slots) (get_or slots j 0)))
-
--- ---- a gain to a real point or to an imaginary one
-
-module _ (slots : List ℕ) (n p : ℕ) (row : List Float) (g : Float) where
-  pub real_yes : n ≤ length slots → p < n → add_at row (get_or slots p 0) (max_of g +0) ≡ to_real (take n slots) row p g
-  unfolding to_real
-  real_yes h k = rw (length-take-le n slots h, lt-ltb p n k, get_or-take n slots p 0 k) refl
-
-  pub real_no : n ≤ length slots → n ≤ p → row ≡ to_real (take n slots) row p g
-  unfolding to_real
-  real_no h k = rw (length-take-le n slots h, le-ltb p n k) refl
-
-module _ (n p : ℕ) (imag : List Float) (g : Float) where
-  pub imag_no : p < n → imag ≡ to_imag n imag p g
-  unfolding to_imag
-  imag_no k = rw (lt-ltb p n k) refl
-
-  pub imag_yes : n ≤ p → add_at imag (min (p - n) 13) (max_of g +0) ≡ to_imag n imag p g
-  unfolding to_imag
-  imag_yes k = rw (le-ltb p n k) refl
+pub imag_no : (n p : ℕ) (imag : List Float) (g : Float) → p < n → imag ≡ to_imag n imag p g
+unfolding to_imag
+imag_no n p imag g k = rw (lt-ltb p n k) refl
 
 -- ---- an imaginary gain shared out
 
-module _ (nbrs : List ℕ) (n : ℕ) (g : Float) (row : List Float) (h : n ≤ length nbrs) where
-  test_told : (lt +0 g && not (is_empty (take n nbrs))) ≡ (lt +0 g && not (eqb n 0))
-  test_told = ap (λ (b : Bool). lt +0 g && not b) (empty_length (take n nbrs) ∙ ap (λ (k : ℕ). eqb k 0) (length-take-le n nbrs h))
+-- whether there is a gain, and a neighbour
+module _ (nbrs : List ℕ) (g : Float) (row : List Float) {none : Bool} (is : none ≡ eqb (length nbrs) 0) where
+  test_told : (lt +0 g && not (is_empty nbrs)) ≡ (lt +0 g && not none)
+  test_told = ap (λ (b : Bool). lt +0 g && not b) (empty_length nbrs ∙ sym is)
 
-  pub shared_yes : (w : Float) → w ≡ div binary32 g (sqrt_of binary32 (count32 n)) → (lt +0 g && not (eqb n 0)) ≡ true
-      → add_each w row (take n nbrs) ≡ shared_by (take n nbrs) g row
+  pub shared_yes : {w : Float} → w ≡ div binary32 g (sqrt_of binary32 (count32 (length nbrs))) → lt +0 g && not none ≡ true → add_each w row nbrs ≡ shared_by nbrs g row
   unfolding shared_by
-  shared_yes w e t = rw (test_told ∙ t, length-take-le n nbrs h, e) refl
+  shared_yes e t = rw (test_told ∙ t, e) refl
 
-  pub shared_no : (lt +0 g && not (eqb n 0)) ≡ false → row ≡ shared_by (take n nbrs) g row
+  pub shared_no : lt +0 g && not none ≡ false → row ≡ shared_by nbrs g row
   unfolding shared_by
   shared_no t = rw (test_told ∙ t) refl
 
@@ -72,12 +44,12 @@ module _ (counts nbrs : List ℕ) (imag row : List Float) where
   unfolding shared_out
   shared_none = sym (fold_none (shared_at counts nbrs imag) row)
 
-  pub shared_more : (k : ℕ) → shared_by (take (get_or counts k 0) (take (k * 40 + 40 - k * 40) (drop (k * 40) nbrs))) (get_or imag k nan) (shared_out counts nbrs imag k row)
+  pub shared_more : (k : ℕ) → get_or counts k 0 ≤ 40 → shared_by (take (k * 40 + get_or counts k 0 - k * 40) (drop (k * 40) nbrs)) (get_or imag k nan) (shared_out counts nbrs imag k row)
       ≡ shared_out counts nbrs imag (k + 1) row
   unfolding shared_out shared_at part
-  shared_more k =
-      let e : k * 40 + 40 - k * 40 ≡ 40 = omega arith in
-      rw e (sym (fold_more (shared_at counts nbrs imag) row k))
+  shared_more k h =
+      let e : k * 40 + get_or counts k 0 - k * 40 ≡ get_or counts k 0 = omega arith in
+      rw (e, sym (take-take (get_or counts k 0) 40 (drop (k * 40) nbrs) h)) (sym (fold_more (shared_at counts nbrs imag) row k))
 
 -- ---- a triplet of real points has nothing to share
 
@@ -111,7 +83,8 @@ real_shares n idx t g e counts nbrs m row =
 
 -- ---- the row of a triplet
 
-pub placed_told : (slots : List ℕ) (m : ℕ) (idx counts nbrs : List ℕ) (k t : ℕ) (g : List Float) (n : ℕ) → m ≤ length slots
-    → shared_out counts nbrs (imag_points m idx t g) k (real_points (take m slots) idx t g (replicate n +0)) ≡ placed (take m slots) idx counts nbrs k t g n
-unfolding placed
-placed_told slots m idx counts nbrs k t g n h = rw (length-take-le m slots h) refl
+module _ (v : VbapPanner) (t : ℕ) (g : List Float) (n : ℕ) (h : v.num_real ≤ length v.pt_out) where
+  pub placed_told : {row : List Float} → row ≡ real_points (take v.num_real v.pt_out) v.idx t g (replicate n +0)
+      → shared_out v.num_nbrs v.imag_nbrs (imag_points v.num_real v.idx t g) v.num_imag row ≡ placed v t g n
+  unfolding placed
+  placed_told e = rw (length-take-le v.num_real v.pt_out h, e) refl

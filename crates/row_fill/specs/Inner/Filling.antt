@@ -9,6 +9,7 @@ use Rattle.float_order.specs.Order.{max_of}
 use Rattle.float_root.specs.Root.{sqrt_of}
 use Rattle.vector.specs.Limits.{max_imaginary}
 use Rattle.row_places.specs.Places.{add_at}
+use Rattle.layout_record.specs.declared.VbapPanner.{VbapPanner}
 
 -- ---- a gain to a real point's slot, or to an imaginary point's sum
 
@@ -34,7 +35,7 @@ is_real nreal idx t = ltb (get_or idx (t * 3) 0) nreal && ltb (get_or idx (t * 3
 
 -- ---- an imaginary gain to its neighbours, and those of the first n imaginary points
 
-unfoldable pub add_each : Float → List Float → List ℕ → List Float
+abbrev pub add_each : Float → List Float → List ℕ → List Float
 add_each w row slots = foldl (λ r o. add_at r o w) row slots
 
 unfoldable pub shared_by : List ℕ → Float → List Float → List Float
@@ -49,8 +50,9 @@ shared_at counts nbrs imag row k = shared_by (take (get_or counts k 0) (part 40 
 unfoldable pub shared_out : List ℕ → List ℕ → List Float → ℕ → List Float → List Float
 shared_out counts nbrs imag n row = foldl (shared_at counts nbrs imag) row (range n)
 
--- ---- a triplet's gains in a row of n places
+-- ---- the gains of triplet t of a record in a row of n places
 
-unfoldable pub placed : List ℕ → List ℕ → List ℕ → List ℕ → ℕ → ℕ → List Float → ℕ → List Float
-placed slots idx counts nbrs nimag t g n =
-    shared_out counts nbrs (imag_points (length slots) idx t g) nimag (real_points slots idx t g (replicate n +0))
+unfoldable pub placed : VbapPanner → ℕ → List Float → ℕ → List Float
+placed v t g n =
+    let slots = take v.num_real v.pt_out in
+    shared_out v.num_nbrs v.imag_nbrs (imag_points (length slots) v.idx t g) v.num_imag (real_points slots v.idx t g (replicate n +0))
