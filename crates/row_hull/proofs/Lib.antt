@@ -2,4 +2,3 @@ pub mod Choice
 pub mod Places
 pub mod Row
 pub mod Meaning
-pub mod Fields

@@ -1,23 +1,23 @@
 -- Laws of the loops over places: an entry of an inverse, a list filled from the front, scaled from the front, summed from the front. Each goes place by place. Assumes nothing.
-use Prim.Native.Nat.{ℕ, zero, suc, ◌+◌, ◌*◌, ◌≤◌, ◌<◌}
+use Prim.Native.Nat.{ℕ, ◌+◌, ◌*◌, ◌≤◌, ◌<◌}
 use mathlib.Core.Bool.{Bool, true, false, ◌||◌}
-use mathlib.Core.Path.{◌≡◌, refl, sym, ap, ap₂, ◌∙◌, subst}
-use mathlib.Core.List.{List, [], ◌∷◌, ◌++◌, map, append-nil}
-use native.Mathlib.Nat.{not-suc-le-zero, le_of_suc-le-suc, add-zero}
+use mathlib.Core.Path.{◌≡◌, refl, sym, ap, ◌∙◌, subst}
+use mathlib.Core.List.{List, [], ◌∷◌, map}
+use native.Mathlib.Nat.{add-zero}
 use native.Mathlib.Numerals.{add-one}
 use native.Mathlib.Omega.{arith}
-use lib.ListN.{length, get_or, set, take, drop, length-map, drop_of_length-le, get_or-eq_default}
-use lib.Seq.{drop-cons, take-suc, take-suc-set, take_all, length-take-le, set_at, get_or_at, get_or-take, append_snoc, set_out}
+use lib.ListN.{length, get_or, set, take, get_or-eq_default}
+use lib.Seq.{take-suc-set, length-take-le, get_or-take, set_out}
 use lib.Dec.{T}
-use lib.Ieee.{Float, nan, binary32, add, mul, div, lt, ne}
+use lib.Ieee.{Float, nan, binary32, div, lt, ne}
 use lib.Ieee.Compare.{differs_from_itself}
+use Rattle.std.proofs.lemmas.List.{get_or_default}
 use Rattle.lists.specs.Lists.{range, part}
 use Rattle.lists.proofs.Parts.{get_d_part}
 use Rattle.lists.proofs.Ranges.{range_none, get_d_map_range, map_range_snoc}
-use Rattle.lists.proofs.Collect.{map_snoc, foldl_snoc}
-use Rattle.float_order.specs.Values.{+0, 1·0}
+use Rattle.float_order.specs.Values.{1·0}
 use Rattle.float_root.specs.Root.{sqrt_of}
-use Rattle.float_order.specs.Order.{min_of, square_of}
+use Rattle.float_order.specs.Order.{min_of}
 use Rattle.float_order.proofs.Order.{min_first_nan, min_second_nan, min_second, min_first}
 use Rattle.vector.specs.Vector.{Vector, dot_in}
 use Rattle.row_hull.specs.HullRow.{least_row_power}
@@ -47,15 +47,10 @@ gain_told s inv t r h =
     )
     refl
 
--- the three rows
-module _ (s : Vector) (inv : List Float) (t : ℕ) (g₀ g₁ g₂ : Float) (e₀ : g₀ ≡ gain_at s inv t 0) (e₁ : g₁ ≡ gain_at s inv t 1) (e₂ : g₂ ≡ gain_at s inv t 2) where
-  pub gains_told : g₀ ∷ g₁ ∷ g₂ ∷ [] ≡ gains_at s inv t
-  unfolding gains_at
-  gains_told = rw (e₀, e₁, e₂) refl
-
-  pub least_told : (a b : Float) → a ≡ min_of g₀ g₁ → b ≡ min_of a g₂ → b ≡ least_at s inv t
-  unfolding least_at
-  least_told a b p q = q ∙ ap₂ min_of (p ∙ ap₂ min_of e₀ e₁) e₂
+-- the least of the three
+pub least_told : (s : Vector) (inv : List Float) (t : ℕ) {g : List Float} {m : Float} → g ≡ gains_at s inv t → m ≡ min_of (min_of (get_or g 0 nan) (get_or g 1 nan)) (get_or g 2 nan) → m ≡ least_at s inv t
+unfolding least_at
+least_told s inv t e f = rw e at f
 
 -- a point of a flat array, three numbers a point
 pub product_told : (s : Vector) (dirs : List Float) (i : ℕ)
@@ -73,52 +68,6 @@ module _ {A : Type 0} (f : ℕ → A) (m : List A) where
 
   pub mapped_more : (t : ℕ) (v : A) → t < length m → take t m ≡ map f (range t) → v ≡ f t → take (t + 1) (set m t v) ≡ map f (range (t + 1))
   mapped_more t v h e g = rw (add-one, take-suc-set m t v h, e, g, ← add-one) (sym (map_range_snoc f t))
-
--- ---- scaled from the front
-
-module _ (x : Float) (l : List Float) where
-  pub times_to : ℕ → List Float
-  times_to i = times_of x (take i l) ++ drop i l
-
-  pub times_none : l ≡ times_to 0
-  unfolding times_to times_of
-  times_none = refl
-
-  pub times_done : (i : ℕ) → length l ≤ i → times_to i ≡ times_of x l
-  unfolding times_to
-  times_done i h = rw (take_all i l h, drop_of_length-le l {i = i} h, append-nil) refl
-
-  module _ (i : ℕ) (h : i < length l) where
-    head_long : length (times_of x (take i l)) ≡ i
-    unfolding times_of
-    head_long = simp length-map (length-take-le i l (omega arith))
-
-    pub times_at : get_or (times_to i) i nan ≡ get_or l i nan
-    unfolding times_to
-    times_at = rw (drop-cons l i nan h) (get_or_at (times_of x (take i l)) (get_or l i nan) (drop (suc i) l) nan i head_long)
-
-    times_snoc : times_of x (take (suc i) l) ≡ times_of x (take i l) ++ mul binary32 (get_or l i nan) x ∷ []
-    unfolding times_of
-    times_snoc = ap (map (λ g. mul binary32 g x)) (take-suc l i nan h) ∙ map_snoc (λ g. mul binary32 g x) (take i l) (get_or l i nan)
-
-    pub times_more : set (times_to i) i (mul binary32 (get_or l i nan) x) ≡ times_to (i + 1)
-    unfolding times_to
-    times_more =
-        rw (drop-cons l i nan h, add-one, times_snoc)
-        (set_at (times_of x (take i l)) (get_or l i nan) (drop (suc i) l) (mul binary32 (get_or l i nan) x) i head_long
-        ∙ sym (append_snoc (times_of x (take i l)) (mul binary32 (get_or l i nan) x) (drop (suc i) l)))
-
--- ---- summed from the front
-
-pub power_none : (l : List Float) → +0 ≡ power_of (take 0 l)
-unfolding power_of
-power_none l = refl
-
-pub power_more : (l : List Float) (i : ℕ) → i < length l
-    → add binary32 (power_of (take i l)) (mul binary32 (get_or l i nan) (get_or l i nan)) ≡ power_of (take (i + 1) l)
-unfolding power_of square_of
-power_more l i h =
-    rw (add-one, take-suc l i nan h) (sym (foldl_snoc (λ p g. add binary32 p (mul binary32 g g)) +0 (take i l) (get_or l i nan)))
 
 -- ---- the lesser of two numbers, by one test
 
@@ -149,18 +98,13 @@ module _ (a b : Float) where
 
 -- ---- the slot of the nearest point
 
-other_default : {A : Type 0} (l : List A) (i : ℕ) (d e : A) → i < length l → get_or l i d ≡ get_or l i e
-other_default [] i d e h = absurd (not-suc-le-zero h)
-other_default (a ∷ l) zero d e h = refl
-other_default (a ∷ l) (suc i) d e h = other_default l i d e (le_of_suc-le-suc h)
-
 module _ (s : Vector) (slots : List ℕ) (dirs : List Float) (n i : ℕ) (row : List Float) (e : i ≡ first_greatest 0 (products_of s dirs n)) (h : n ≤ length slots) where
   at_place : nearest_in s slots dirs n row ≡ set row (get_or (take n slots) i (length row)) 1·0
   unfolding nearest_in
   at_place = rw e refl
 
   slot_found : i < n → get_or (take n slots) i (length row) ≡ get_or slots i 0
-  slot_found k = get_or-take n slots i (length row) k ∙ other_default slots i (length row) 0 (omega arith)
+  slot_found k = get_or-take n slots i (length row) k ∙ get_or_default slots i (length row) 0 (omega arith)
 
   pub nearest_set : i < n → set row (get_or slots i 0) 1·0 ≡ nearest_in s slots dirs n row
   nearest_set k = sym (at_place ∙ ap (λ (o : ℕ). set row o 1·0) (slot_found k))
@@ -174,9 +118,9 @@ module _ (s : Vector) (slots : List ℕ) (dirs : List Float) (n i : ℕ) (row : 
 
 module _ (row : List Float) where
   pub scaled_yes : (x : Float) → x ≡ div binary32 1·0 (sqrt_of binary32 (power_of row)) → lt least_row_power (power_of row) ≡ true → times_of x row ≡ scaled row
-  unfolding scaled times_of power_of
+  unfolding scaled
   scaled_yes x e t = rw (t, e) refl
 
   pub scaled_no : lt least_row_power (power_of row) ≡ false → row ≡ scaled row
-  unfolding scaled power_of
+  unfolding scaled
   scaled_no t = rw t refl

@@ -8,6 +8,15 @@ use Rattle.float_order.specs.Values.{+0, 1·0}
 use Rattle.float_order.specs.Order.{min_of, square_of}
 use Rattle.vector.specs.Vector.{Vector, dot_in}
 use Rattle.row_greatest.specs.Greatest.{first_greatest}
+use Rattle.layout_record.specs.Shape.{HullShape}
+use Rattle.layout_record.specs.Panner.{hull_in, shape_in}
+use Rattle.layout_record.specs.declared.Kind.TheVariants.{Hull}
+use Rattle.layout_record.specs.declared.VbapPanner.{VbapPanner}
+
+-- ---- the hull that a record holds
+
+abbrev pub hull_shape : VbapPanner → HullShape
+hull_shape v = hull_in (shape_in v Hull)
 
 -- ---- the gains of a triplet
 
@@ -18,7 +27,7 @@ inverse_at inv t = map (λ e. get_or inv (e * 80 + t) nan) (range 9)
 unfoldable pub gain_at : Vector → List Float → ℕ → ℕ → Float
 gain_at s inv t r = dot_in binary32 (part 3 (inverse_at inv t) r) s
 
-unfoldable pub gains_at : Vector → List Float → ℕ → List Float
+abbrev pub gains_at : Vector → List Float → ℕ → List Float
 gains_at s inv t = gain_at s inv t 0 ∷ gain_at s inv t 1 ∷ gain_at s inv t 2 ∷ []
 
 unfoldable pub least_at : Vector → List Float → ℕ → Float
@@ -37,8 +46,8 @@ nearest_in s slots dirs n row = set row (get_or (take n slots) (first_greatest 0
 
 -- ---- the power of a row
 
-unfoldable pub power_of : List Float → Float
+abbrev pub power_of : List Float → Float
 power_of row = foldl (λ p g. add binary32 p (square_of g)) +0 row
 
-unfoldable pub times_of : Float → List Float → List Float
+abbrev pub times_of : Float → List Float → List Float
 times_of x row = map (λ g. mul binary32 g x) row
