@@ -1,2 +1,0 @@
--- What connects the functions with the definitions; nothing here has to be believed.
-pub mod Checked
