@@ -1,8 +1,10 @@
--- `mix_eights::load` meets its contract: the range of 8, counted out, names the eight places that are read. Assumes nothing.
-use native.Mathlib.Nat.{add-zero}
-use Rattle.lists.specs.Lists.{range, from}
+-- `mix_eights::load` meets its contract: each of the eight is what the closure answers at its place. Assumes nothing.
+use Prim.Native.Nat.{ℕ, ◌+◌}
+use lib.ListN.{get_or}
+use lib.Ieee.{nan}
+use Rattle.std.proofs.Common.{rules}
+use Rattle.mix_eights.proofs.Eights.{from_fn_made}
 use Rattle.mix_eights.proofs.load.Goals as goal
 
 pub returns : goal.returns
-unfolding range from
-returns c = rw add-zero
+returns c = from_fn_made _ (λ (k : ℕ). get_or c.args.s.now (c.args.i + k) nan) c.from_fn.ensures.items (λ i r q k. search rules)

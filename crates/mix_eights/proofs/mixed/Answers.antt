@@ -1,9 +1,13 @@
--- `mix_eights::mixed` meets its contract: each of the eight is what `sample` ensures. Assumes nothing.
-use Rattle.lists.specs.Lists.{range, from}
-use Rattle.mix_eights.proofs.Eights.{eight_same}
+-- `mix_eights::mixed` meets its contract: each of the eight is what the closure answers at its place. Assumes nothing.
+use Prim.Native.Nat.{ℕ}
+use lib.ListN.{get_or}
+use lib.Ieee.{nan}
+use Rattle.std.proofs.Common.{rules}
+use Rattle.mix_eights.specs.Inner.Eights.{sample_of}
+use Rattle.mix_eights.proofs.Eights.{from_fn_made}
 use Rattle.mix_eights.proofs.mixed.Goals as goal
 
 pub returns : goal.returns
-unfolding range from
 returns c =
-    eight_same c.sample.ensures c.sample-2.ensures c.sample-3.ensures c.sample-4.ensures c.sample-5.ensures c.sample-6.ensures c.sample-7.ensures c.sample-8.ensures
+    let a = c.args in
+    from_fn_made _ (λ (k : ℕ). sample_of (get_or a.d k nan) (get_or a.s k nan) a.g0 a.step (get_or a.c k nan)) c.from_fn.ensures.items (λ i r q k. search rules)

@@ -1,34 +1,20 @@
--- `mix_eights::store` meets its contract: the range of 8, counted out, names the eight places that are stored. Assumes nothing.
-use native.Mathlib.Nat.{add-zero}
 use native.Mathlib.Omega.{arith}
-use lib.ListN.{length-set}
-use Rattle.lists.specs.Lists.{range, from}
+use mathlib.Core.Path.{◌≡◌, ap}
+use mathlib.Core.List.{List}
+use lib.Ieee.{Float, nan}
+use lib.ListN.{set, get_or}
+use Prim.Native.Nat.{◌+◌}
+use Rattle.lists.proofs.Ranges.{range_none, range_snoc}
+use Rattle.lists.proofs.Collect.{foldl_snoc}
 use Rattle.mix_eights.proofs.store.Goals as goal
 
-pub bounds-d-i-2 : goal.bounds-d-i-2
-bounds-d-i-2 c = simp length-set (omega arith)
+pub loop-k-init : goal.loop-k-init
+loop-k-init c = rw range_none
 
-pub bounds-d-i-3 : goal.bounds-d-i-3
-bounds-d-i-3 c = simp length-set (omega arith)
-
-pub bounds-d-i-4 : goal.bounds-d-i-4
-bounds-d-i-4 c = simp length-set (omega arith)
-
-pub bounds-d-i-5 : goal.bounds-d-i-5
-bounds-d-i-5 c = simp length-set (omega arith)
-
-pub bounds-d-i-6 : goal.bounds-d-i-6
-bounds-d-i-6 c = simp length-set (omega arith)
-
-pub bounds-d-i-7 : goal.bounds-d-i-7
-bounds-d-i-7 c = simp length-set (omega arith)
-
-pub bounds-d-i-8 : goal.bounds-d-i-8
-bounds-d-i-8 c = simp length-set (omega arith)
-
-pub shape_of-d : goal.shape_of-d
-shape_of-d c = simp length-set
+pub loop-k-preserved : goal.loop-k-preserved
+loop-k-preserved c = rw range_snoc (rw foldl_snoc (ap (λ (l : List Float). set l (c.args.i + c.loop-k.k) (get_or c.args.v c.loop-k.k nan)) c.loop-k.invariant))
 
 pub returns : goal.returns
-unfolding range from
-returns c = rw add-zero
+returns c =
+    let e : c.loop-k.k ≡ 8 = omega arith in
+    rw (← e) c.loop-k.invariant
