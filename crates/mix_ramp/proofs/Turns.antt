@@ -2,17 +2,19 @@
 use Prim.Native.Nat.{ℕ, zero, suc, ◌+◌, ◌-◌, ◌≤◌, ◌<◌, min, max}
 use mathlib.Core.Path.{◌≡◌, refl, sym, ap, ◌∙◌}
 use mathlib.Core.Bool.{true, false}
-use mathlib.Core.List.{List, ◌∷◌, ◌++◌, map, foldl, foldl-append}
+use mathlib.Core.List.{List, [], ◌∷◌, ◌++◌, map, foldl, foldl-append, append-nil}
+use native.Mathlib.Nat.{add-zero}
 use native.Mathlib.Numerals.{add-one}
 use native.Mathlib.Omega.{arith}
-use lib.ListN.{length, get_or, set, drop}
+use lib.ListN.{length, get_or, set, take, drop}
+use Rattle.std.proofs.lemmas.List.{length-take, length-take-le, get_or-take, drop-take}
 use lib.Seq.{drop-cons, set_at, get_or_at, append_snoc, get_or-set_other}
 use lib.Ieee.{Float, nan, binary32, add, sub, mul, div, eq}
 use Rattle.lists.specs.Lists.{from, range, between}
 use Rattle.mix_ramp.specs.Ramp.{ramp_gain, ramp_add_of}
 use Rattle.mix_eights.specs.Inner.Eights.{sample_of}
 use Rattle.mix_ramp.specs.Inner.Turns.{steady_turn, ramp_turn}
-use Rattle.lists.proofs.Ranges.{range_none, range_snoc, between_none, between_snoc, between_append, range_between, map_range_snoc, length_map_range, get_d_map_range}
+use Rattle.lists.proofs.Ranges.{range_none, range_snoc, between_none, between_snoc, between_append, range_between, map_range_snoc, length_map_range, get_d_map_range, same_places}
 use Rattle.lists.proofs.Collect.{foldl_snoc}
 use Rattle.float_order.specs.Values.{count32}
 use Rattle.mix_ramp.proofs.Counts.{counts_from}
@@ -109,3 +111,36 @@ module _ (src dst : List Float) (g0 : Float) where
         let step : Float = div binary32 (sub binary32 g1 g0) count in
         rw (← few, e, ← w)
         (turns_all (λ i x. add binary32 x (mul binary32 (get_or src i nan) (add binary32 g0 (mul binary32 step (count32 (i + 1)))))) dst n (omega arith))
+
+-- ---- the ramp of the first n samples of both, and the rest of dst
+
+module _ (src dst : List Float) (g0 g1 : Float) (n : ℕ) (few : n ≡ min (length dst) (length src)) where
+  long : length (take n dst) ≡ n
+  long = length-take-le n dst (omega arith)
+
+  few_taken : n ≡ min (length (take n dst)) (length (take n src))
+  few_taken = simp length-take (omega arith)
+
+  taken_same : ramp_add_of (take n dst) (take n src) g0 g1 ++ drop n dst ≡ ramp_add_of dst src g0 g1
+  unfolding ramp_add_of
+  taken_same =
+      let none : drop n (take n dst) ≡ [] = rw add-zero at (drop-take n 0 dst) in
+      rw (← few_taken, ← few, none, append-nil)
+      (ap (λ (l : List Float). l ++ drop n dst)
+      (same_places
+      (λ i. add binary32 (get_or (take n dst) i nan) (mul binary32 (get_or (take n src) i nan) (ramp_gain n g0 g1 i)))
+      (λ i. add binary32 (get_or dst i nan) (mul binary32 (get_or src i nan) (ramp_gain n g0 g1 i)))
+      n (λ i h. rw (get_or-take n dst i nan h, get_or-take n src i nan h))))
+
+  pub steady_taken : eq g0 g1 ≡ true → foldl (steady_turn (take n src) g1) (take n dst) (range (length (take n dst))) ++ drop n dst ≡ ramp_add_of dst src g0 g1
+  steady_taken e =
+      ap (λ (k : ℕ). foldl (steady_turn (take n src) g1) (take n dst) (range k) ++ drop n dst) long
+      ∙ ap (λ (l : List Float). l ++ drop n dst) (steady_all (take n src) (take n dst) g0 g1 n few_taken e)
+      ∙ taken_same
+
+  pub ramp_taken : {count : Float} → count ≡ count32 (max n 1) → eq g0 g1 ≡ false
+      → foldl (ramp_turn (take n src) g0 (div binary32 (sub binary32 g1 g0) count)) (take n dst) (range (length (take n dst))) ++ drop n dst ≡ ramp_add_of dst src g0 g1
+  ramp_taken {count} w e =
+      ap (λ (k : ℕ). foldl (ramp_turn (take n src) g0 (div binary32 (sub binary32 g1 g0) count)) (take n dst) (range k) ++ drop n dst) long
+      ∙ ap (λ (l : List Float). l ++ drop n dst) (ramp_all (take n src) (take n dst) g0 g1 n few_taken w e)
+      ∙ taken_same

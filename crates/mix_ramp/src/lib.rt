@@ -1,7 +1,7 @@
 // The ramp: document 01, "The ramp and the mixed gain follow S"; source lines 585 to 602.
 #![tactic(auto)]
 
-ghost use Rattle.std.specs.Prelude.{◌≡◌, ◌+◌, ◌≤◌, min, max, length};
+ghost use Rattle.std.specs.Prelude.{◌≡◌, ◌+◌, ◌≤◌, length};
 ghost use mathlib.Core.List.{foldl};
 ghost use Rattle.lists.specs.Lists.{range, between};
 ghost use Rattle.mix_ramp.specs.Ramp.{ramp_add_of};
@@ -10,60 +10,43 @@ ghost use Rattle.mix_ramp.specs.Inner.Turns.{steady_turn, ramp_turn};
 // 2^24: up to here every whole number is an f32, and adding 8 to one rounds nothing. Origin: IEEE 754-2019, table 3.5, the 24 digits of binary32.
 const EXACT_COUNTS: usize = 16777216;
 
-fn fewest(a: usize, b: usize) -> usize
-    ensures { result ≡ min a b }
+// Every sample at one gain.
+fn steady(dst: &mut [f32], src: &[f32], g: f32)
+    requires { length dst.old ≡ length src.now }
+    ensures { dst.new ≡ foldl (steady_turn src.now g) dst.old (range (length dst.old)) }
 {
-    if a < b { a } else { b }
-}
-
-fn most(a: usize, b: usize) -> usize
-    ensures { result ≡ max a b }
-{
-    if a < b { b } else { a }
-}
-
-// n samples at one gain.
-fn steady(dst: &mut [f32], src: &[f32], n: usize, g: f32)
-    requires { (n ≤ length dst.old) × (n ≤ length src.now) }
-    ensures { dst.new ≡ foldl (steady_turn src.now g) dst.old (range n) }
-{
-    let mut i: usize = 0;
-    while i < n {
-        dst[i] = dst[i] + src[i] * g;
-        i += 1;
+    for (i, d) in dst.iter_mut().enumerate() {
+        *d += src[i] * g;
     }
 }
 
 // Samples at moving gains, eight at a time while eight are left and their counts are exact: how many. Origin of 8 and of the first counts, 1 to 8: crate mix_eights; sample i has the count i + 1, vbap.rs line 599.
-fn by_eights(dst: &mut [f32], src: &[f32], n: usize, g0: f32, step: f32) -> usize
-    requires { (n ≤ length dst.old) × (n ≤ length src.now) }
-    ensures within { result ≤ n }
+fn by_eights(dst: &mut [f32], src: &[f32], g0: f32, step: f32) -> usize
+    requires { length dst.old ≡ length src.now }
+    ensures within { result ≤ length dst.old }
     ensures mixed { dst.new ≡ foldl (ramp_turn src.now g0 step) dst.old (range result) }
 {
-    let m = fewest(n, EXACT_COUNTS);
-    let mut i: usize = 0;
-    let mut c: [f32; 8] = [1.0, 2.0, 3.0, 4.0, 5.0, 6.0, 7.0, 8.0];
-    while m - i >= 8 {
+    let turns = dst.len().min(EXACT_COUNTS) / 8;
+    let mut c = [1.0, 2.0, 3.0, 4.0, 5.0, 6.0, 7.0, 8.0];
+    for k in 0..turns {
+        let i = k * 8;
         let s = mix_eights::load(src, i);
         let d = mix_eights::load(&*dst, i);
         mix_eights::store(&mut *dst, i, mix_eights::mixed(d, s, g0, step, c));
         let next = mix_eights::onward(c);
         c = next;
-        i += 8;
     }
-    i
+    turns * 8
 }
 
-// Samples from `from` to n at moving gains, each count rounded once from the whole number.
-fn one_by_one(dst: &mut [f32], src: &[f32], from: usize, n: usize, g0: f32, step: f32)
-    requires { (from ≤ n) × (n ≤ length dst.old) × (n ≤ length src.now) }
-    ensures { dst.new ≡ foldl (ramp_turn src.now g0 step) dst.old (between from n) }
+// Samples from `from` on at moving gains, each count rounded once from the whole number.
+fn one_by_one(dst: &mut [f32], src: &[f32], from: usize, g0: f32, step: f32)
+    requires { (from ≤ length dst.old) × (length dst.old ≡ length src.now) }
+    ensures { dst.new ≡ foldl (ramp_turn src.now g0 step) dst.old (between from (length dst.old)) }
 {
-    let mut i = from;
-    while i < n {
+    for i in from..dst.len() {
         let count = float_widths::f32_from_u64((i + 1) as u64);
         dst[i] = mix_eights::sample(dst[i], src[i], g0, step, count);
-        i += 1;
     }
 }
 
@@ -72,12 +55,14 @@ fn one_by_one(dst: &mut [f32], src: &[f32], from: usize, n: usize, g0: f32, step
 pub fn ramp_add(dst: &mut [f32], src: &[f32], g0: f32, g1: f32)
     ensures { dst.new ≡ ramp_add_of dst.old src.now g0 g1 }
 {
-    let n = fewest(dst.len(), src.len());
+    let n = dst.len().min(src.len());
+    let dst = &mut dst[..n];
+    let src = &src[..n];
     if g0 == g1 {
-        steady(dst, src, n, g1);
+        steady(dst, src, g1);
         return;
     }
-    let step = (g1 - g0) / float_widths::f32_from_u64(most(n, 1) as u64);
-    let done = by_eights(&mut *dst, src, n, g0, step);
-    one_by_one(dst, src, done, n, g0, step);
+    let step = (g1 - g0) / float_widths::f32_from_u64(n.max(1) as u64);
+    let done = by_eights(&mut *dst, src, g0, step);
+    one_by_one(dst, src, done, g0, step);
 }

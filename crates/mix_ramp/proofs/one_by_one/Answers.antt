@@ -1,31 +1,22 @@
-use mathlib.Core.Path.{◌≡◌, refl}
+use mathlib.Core.Path.{◌≡◌}
 use native.Mathlib.Omega.{arith}
-use lib.ListN.{length-set}
+use lib.ListN.{length}
 use Rattle.mix_ramp.specs.Inner.Turns.{ramp_turn}
 use Rattle.lists.proofs.Ranges.{between_none}
 use Rattle.mix_ramp.proofs.Turns.{turns_more_from}
 use Rattle.mix_ramp.proofs.one_by_one.Goals as goal
 
 pub loop-i-init : goal.loop-i-init
-loop-i-init c =
-    let s = c.args in
-    (omega arith, omega arith, refl, rw (between_none s.from s.from (omega arith)))
+loop-i-init c = rw (between_none c.args.from c.args.from (omega arith))
 
 pub loop-i-preserved : goal.loop-i-preserved
 unfolding ramp_turn
 loop-i-preserved c =
-    let s = c.args in (
-      omega arith,
-      omega arith,
-      simp length-set c.loop-i.invariant.2,
-      rw (c.sample.ensures, c.f32_from_u64-count.ensures)
-          (turns_more_from (ramp_turn s.src.now s.g0 s.step) s.dst.now s.from c.loop-i.i (omega arith) c.loop-i.invariant.3),
-    )
-
-pub shape_of-dst : goal.shape_of-dst
-shape_of-dst c = c.loop-i.invariant.2
+    let s = c.args in
+    rw (c.sample.ensures, c.f32_from_u64-count.ensures)
+    (turns_more_from (ramp_turn s.src.now s.g0 s.step) s.dst.now s.from c.loop-i.i (omega arith) c.loop-i.invariant)
 
 pub returns : goal.returns
 returns c =
-    let e : c.loop-i.i ≡ c.args.n = omega arith in
-    rw (← e) c.loop-i.invariant.3
+    let e : c.loop-i.i ≡ length c.args.dst.now = omega arith in
+    rw (← e) c.loop-i.invariant
