@@ -32,15 +32,12 @@ fn mix_source(
     requires { (outputs ≤ row_places) × (i < most_sources) × (i * block + block ≤ length samples.now) × (length out.old ≡ outputs * block) }
     ensures { out.new ≡ foldl (ramp_part block samples.now from.now to.now i) out.old (range outputs) }
 {
-    let mut o: usize = 0;
-    while o < outputs {
+    let b = i * block;
+    let source = &samples[b..b + block];
+    for o in 0..outputs {
         let k = i * ROW + o;
         let a = o * block;
-        let e = a + block;
-        let b = i * block;
-        let d = b + block;
-        mix_ramp::ramp_add(&mut out[a..e], &samples[b..d], from[k], to[k]);
-        o += 1;
+        mix_ramp::ramp_add(&mut out[a..a + block], source, from[k], to[k]);
     }
 }
 
@@ -57,9 +54,7 @@ pub fn mix(
     requires { (outputs ≤ row_places) × (sources ≤ most_sources) × (length samples.now ≡ sources * block) × (length out.old ≡ outputs * block) }
     ensures { out.new ≡ foldl (ramp_source block outputs samples.now from.now to.now) out.old (range sources) }
 {
-    let mut i: usize = 0;
-    while i < sources {
+    for i in 0..sources {
         mix_source(block, outputs, i, samples, from, to, out);
-        i += 1;
     }
 }
