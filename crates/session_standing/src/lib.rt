@@ -47,12 +47,7 @@ fn keep_last(standing: Standing, first: usize, last: usize) -> Standing
     let mut r = standing;
     r[first] = standing[last];
     r[first + 1] = standing[last + 1];
-    let end = first + WIDTH;
-    let mut k = first + 2;
-    while k < end {
-        r[k] = 0.0;
-        k += 1;
-    }
+    r[first + 2..first + WIDTH].fill(0.0);
     r
 }
 
