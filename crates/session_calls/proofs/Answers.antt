@@ -13,9 +13,8 @@ use Rattle.row_gains.specs.Gains.{finite_or0}
 use Rattle.session_history.specs.Calls.{Call, place, take_back, settle}
 use Rattle.session_history.specs.History.{depth}
 use Rattle.session_calls.specs.Session.{standing_count, number_of, at, stood, with_starts, restood, placed, taken_back, settled, accepted, after}
-use Rattle.session_calls.specs.Answers.{answer_of}
+use Rattle.session_calls.specs.Answers.{Answer, answer_of}
 use Rattle.session_calls.specs.declared.Session.{Session}
-use Rattle.session_calls.specs.declared.Answer.{Answer}
 
 -- ---- after a call
 

@@ -8,6 +8,7 @@ use borrow.Author.Tests.{ltb-false, leb-false, eqb-false, lt-leb, le-ltb}
 use lib.Dec.{eqb, ltb, leb}
 use lib.Ieee.{Float}
 use lib.ListN.{get_or}
+use Rattle.std.specs.List.{list_any}
 use Rattle.lists.specs.Lists.{any}
 use Rattle.layout_record.specs.Malformed.{malformed_of}
 use Rattle.lists.proofs.Tests.{neither}
@@ -16,6 +17,9 @@ use Rattle.session_history.specs.Calls.{place, take_back, settle}
 use Rattle.session_history.specs.History.{depth}
 use Rattle.session_calls.specs.Session.{malformed_by, malformed_session, standing_count, on_source, number_of}
 use Rattle.session_calls.specs.declared.Session.{Session}
+use Rattle.refusals.specs.declared.Refusal.{Refusal}
+use Rattle.refusals.specs.declared.Refusal.TheVariants.{NotTriples, TooManyPositions, NoSuchCount, TooManyTriplets, NoSuchSource, Full, NoneStands, BlockLength, SampleLength, OutputLength, Malformed}
+use Rattle.refusals.specs.Refusals.{number_of as refusal_number}
 
 -- ---- a session that is not malformed, by its depth
 
@@ -48,11 +52,32 @@ formed s e = formed_by depth s e
 pub formed_is : (s : Session) → Formed s → malformed_session s ≡ false
 formed_is s f = formed_by_is depth s f
 
+-- std's test of a list and ours are one
+pub any_same : {A : Type 0} (f : A → Bool) (l : List A) → list_any f l ≡ any f l
+unfolding any
+any_same f [] = refl
+any_same f (x ∷ l) = rw (any_same f l)
+
 pub none_at : (b : ℕ) (l : List ℕ) (i : ℕ) → any (λ n. ltb b n) l ≡ false → get_or l i 0 ≤ b
 unfolding any
 none_at b [] i e = omega arith
 none_at b (n ∷ l) zero e = ltb-false b n (neither (ltb b n) (any (λ n. ltb b n) l) e).0
 none_at b (n ∷ l) (suc i) e = none_at b l i (neither (ltb b n) (any (λ n. ltb b n) l) e).1
+
+-- ---- a refusal's number
+
+pub refused : (why : Refusal) → refusal_number why ≡ 0 → ⊥
+refused NotTriples e = omega arith
+refused TooManyPositions e = omega arith
+refused NoSuchCount e = omega arith
+refused TooManyTriplets e = omega arith
+refused NoSuchSource e = omega arith
+refused Full e = omega arith
+refused NoneStands e = omega arith
+refused BlockLength e = omega arith
+refused SampleLength e = omega arith
+refused OutputLength e = omega arith
+refused Malformed e = omega arith
 
 -- ---- the refusals that all calls on one source share
 

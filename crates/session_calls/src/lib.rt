@@ -2,15 +2,17 @@
 #![tactic(auto)]
 
 ghost use Rattle.std.specs.Prelude.{◌≡◌, ◌<◌, ltb};
+ghost use Rattle.refusals.specs.Refusals.{number_in};
 ghost use Rattle.lists.specs.Lists.{any};
 ghost use Rattle.session_history.specs.Calls.{place, take_back, settle};
 ghost use Rattle.session_history.specs.History.{depth};
 ghost use Rattle.mix_block.specs.Limits.{most_sources};
 ghost use Rattle.session_calls.specs.Session.{malformed_session, on_source, number_of, stood, with_starts};
-ghost use Rattle.session_calls.specs.Answers.{answer_of};
+ghost use Rattle.session_calls.specs.Answers.{answer_of, answered};
 
 use layout_record::VbapPanner;
 use mix_block::{SOURCES, Starts};
+use refusals::Refusal;
 use session_standing::{Count, Counts, DEPTH, Standing};
 
 // The counts and standing directions lie as crate session_standing says, the start rows as crate mix_block says.
@@ -23,103 +25,74 @@ pub struct Session {
     pub starts: Starts,
 }
 
-// What a call on a session answers: the session after it, and 0 or the refusal's number. The session stands first, so that it is copied as it lies.
-#[derive(Clone, Copy)]
-pub struct Answer {
-    pub session: Session,
-    pub number: u32,
-}
-
 // ---- refusals
 
 // Whether a standing count is over the depth.
-fn counts_over(counts: Counts) -> bool
-    ensures { result ≡ any (λ n. ltb depth n) counts }
+fn counts_over(counts: &Counts) -> bool
+    ensures { result ≡ any (λ n. ltb depth n) counts.now }
 {
-    let mut i: usize = 0;
-    while i < SOURCES {
-        if DEPTH < counts[i] {
-            return true;
-        }
-        i += 1;
-    }
-    false
+    counts.iter().any(|n| *n > DEPTH)
 }
 
 // Whether its layout is malformed, its sources are not 1 to 8, or a standing count is over the depth.
-pub fn malformed_session(s: Session) -> bool
-    ensures { result ≡ malformed_session s }
+pub fn malformed_session(s: &Session) -> bool
+    ensures { result ≡ malformed_session s.now }
 {
     let panner = s.panner;
-    let counts = s.counts;
     layout_record::malformed(panner)
         | (s.sources < 1)
         | (SOURCES < s.sources as usize)
-        | counts_over(counts)
+        | counts_over(&s.counts)
 }
 
-// The refusals that the calls on one source share: 11, then 5, and 0 where neither applies.
-fn source_refusal(s: Session, source: usize) -> u32
-    ensures { result ≡ on_source s source 0 }
+// The refusals that the calls on one source share.
+fn source_refusal(s: &Session, source: usize) -> Result<(), Refusal>
+    ensures { number_in result ≡ on_source s.now source 0 }
 {
-    let malformed = malformed_session(s);
-    let none = (s.sources as usize) <= source;
-    if malformed {
-        return 11;
+    if malformed_session(s) {
+        return Err(Refusal::Malformed);
     }
-    if none {
-        return 5;
+    if source >= s.sources as usize {
+        return Err(Refusal::NoSuchSource);
     }
-    0
+    Ok(())
 }
 
-// The number of a place: the shared refusals, then 6.
-pub fn place_refusal(s: Session, source: usize, az: f32, el: f32) -> u32
-    ensures { result ≡ number_of s (place source az el) }
+// What refuses a place: the shared refusals, then a full list.
+fn place_refusal(s: &Session, source: usize, az: f32, el: f32) -> Result<(), Refusal>
+    ensures { number_in result ≡ number_of s.now (place source az el) }
 {
-    let why = source_refusal(s, source);
-    if why != 0 {
-        return why;
+    source_refusal(s, source)?;
+    if s.counts[source] >= DEPTH {
+        return Err(Refusal::Full);
     }
-    let counts = s.counts;
-    if DEPTH <= counts[source] {
-        return 6;
-    }
-    0
+    Ok(())
 }
 
-// The number of a take back: the shared refusals, then 7.
-fn take_back_refusal(s: Session, source: usize) -> u32
-    ensures { result ≡ number_of s (take_back source) }
+// What refuses a take back: the shared refusals, then an empty list.
+fn take_back_refusal(s: &Session, source: usize) -> Result<(), Refusal>
+    ensures { number_in result ≡ number_of s.now (take_back source) }
 {
-    let why = source_refusal(s, source);
-    if why != 0 {
-        return why;
+    source_refusal(s, source)?;
+    if s.counts[source] == 0 {
+        return Err(Refusal::NoneStands);
     }
-    let counts = s.counts;
-    if counts[source] == 0 {
-        return 7;
-    }
-    0
+    Ok(())
 }
 
-// ---- a session by each kind of change. Made of the fields, so that the record is not copied on the way.
+// ---- a session by each kind of change
 
 // With another count for a source, and other standing directions.
 fn stood(s: Session, source: usize, n: Count, standing: Standing) -> Session
     requires { source < most_sources }
     ensures { result ≡ stood s source n standing }
 {
-    let panner = s.panner;
     let mut counts = s.counts;
     counts[source] = n;
-    let starts = s.starts;
     Session {
-        panner,
-        sources: s.sources,
         counts,
         standing,
-        starts,
+        ..s
     }
 }
 
@@ -127,34 +100,17 @@ fn stood(s: Session, source: usize, n: Count, standing: Standing) -> Session
 pub fn with_starts(s: Session, starts: Starts) -> Session
     ensures { result ≡ with_starts s starts }
 {
-    let panner = s.panner;
-    let counts = s.counts;
-    let standing = s.standing;
-    Session {
-        panner,
-        sources: s.sources,
-        counts,
-        standing,
-        starts,
-    }
+    Session { starts, ..s }
 }
 
-// ---- place, take back, settle
+// ---- place, take back, settle. An `Err` leaves the caller's session as it is.
 
 // Appends a direction.
-pub fn place(s: Session, source: usize, az: f32, el: f32) -> Answer
-    ensures { result ≡ answer_of s (place source az el) }
+pub fn place(s: Session, source: usize, az: f32, el: f32) -> Result<Session, Refusal>
+    ensures { answered s result ≡ answer_of s (place source az el) }
 {
-    let why = place_refusal(s, source, az, el);
-    if why != 0 {
-        // a refused place leaves the session as it is
-        return Answer {
-            session: s,
-            number: why,
-        };
-    }
-    let counts = s.counts;
-    let n = counts[source];
+    place_refusal(&s, source, az, el)?;
+    let n = s.counts[source];
     let standing = s.standing;
     let placed = session_standing::put(
         standing,
@@ -163,60 +119,32 @@ pub fn place(s: Session, source: usize, az: f32, el: f32) -> Answer
         row_gains::finite_or_0(az),
         row_gains::finite_or_0(el),
     );
-    Answer {
-        session: stood(s, source, n + 1, placed),
-        number: 0,
-    }
+    Ok(stood(s, source, n + 1, placed))
 }
 
 // Removes the last direction, +0 into the freed place.
-pub fn take_back(s: Session, source: usize) -> Answer
-    ensures { result ≡ answer_of s (take_back source) }
+pub fn take_back(s: Session, source: usize) -> Result<Session, Refusal>
+    ensures { answered s result ≡ answer_of s (take_back source) }
 {
-    let why = take_back_refusal(s, source);
-    if why != 0 {
-        // a refused take back leaves the session as it is
-        return Answer {
-            session: s,
-            number: why,
-        };
-    }
-    let counts = s.counts;
-    let n = counts[source];
+    take_back_refusal(&s, source)?;
+    let n = s.counts[source] - 1;
     let standing = s.standing;
-    let rest = session_standing::put(standing, source, (n - 1) as usize, 0.0, 0.0);
-    Answer {
-        session: stood(s, source, n - 1, rest),
-        number: 0,
-    }
+    let rest = session_standing::put(standing, source, n as usize, 0.0, 0.0);
+    Ok(stood(s, source, n, rest))
 }
 
 // Keeps only the last direction; an empty list stays as it is.
-pub fn settle(s: Session, source: usize) -> Answer
+pub fn settle(s: Session, source: usize) -> Result<Session, Refusal>
     // The last direction is copied to the first place as it is held. In a hand-made record it may hold a NaN: the promise says that a NaN stands there afterwards,
     // and the code copies its bits. Its sign and payload are not the program's choice, but the logic has one NaN and cannot say so.
-    ensures { result ≡ answer_of s (settle source) }
+    ensures { answered s result ≡ answer_of s (settle source) }
 {
-    let why = source_refusal(s, source);
-    if why != 0 {
-        // a refused settle leaves the session as it is
-        return Answer {
-            session: s,
-            number: why,
-        };
+    source_refusal(&s, source)?;
+    let n = s.counts[source];
+    if n == 0 {
+        return Ok(s);
     }
-    let counts = s.counts;
-    let n = counts[source];
-    if 0 < n {
-        let standing = s.standing;
-        let last = session_standing::keep(standing, source, (n - 1) as usize);
-        return Answer {
-            session: stood(s, source, 1, last),
-            number: 0,
-        };
-    }
-    Answer {
-        session: s,
-        number: 0,
-    }
+    let standing = s.standing;
+    let last = session_standing::keep(standing, source, (n - 1) as usize);
+    Ok(stood(s, source, 1, last))
 }

@@ -1,41 +1,41 @@
 -- `session_calls::settle` meets its contract: the shared refusals, then what stands decides. Assumes nothing.
-use mathlib.Core.Path.{◌≡◌, sym, ◌∙◌}
+use mathlib.Core.Path.{◌≡◌, refl, sym, ◌∙◌}
 use native.Mathlib.Omega.{arith}
+use Rattle.std.proofs.lemmas.Result.{err_from_is_err_and}
 use Rattle.session_history.specs.Calls.{settle}
 use Rattle.session_calls.specs.Session.{number_of}
-use Rattle.session_calls.proofs.Refusals.{Passed, passed, settle_number}
+use Rattle.session_calls.proofs.Refusals.{Passed, passed, refused, settle_number}
 use Rattle.session_calls.proofs.Answers.{refused_as, accepted_as, settled_none, settled_as}
 use Rattle.session_calls.proofs.settle.Goals as goal
-use Rattle.session_calls.proofs.settle.Goals.{Else-why-ne0}
+use Rattle.session_calls.proofs.settle.Goals.{In_ok-source_refusal}
 
-went : (c : Else-why-ne0) → Passed c.args.s c.args.source
-went c = passed _ _ 0 (sym c.source_refusal-why.ensures ∙ c.if-why-ne0.false)
+went : (c : In_ok-source_refusal) → Passed c.args.s c.args.source
+went c = passed _ _ 0 (sym c.in_ok-source_refusal.ensures)
 
-number : (c : Else-why-ne0) → c.source_refusal-why.result ≡ number_of c.args.s (settle c.args.source)
-number c = c.source_refusal-why.ensures ∙ sym (settle_number _ _)
+number : (c : In_ok-source_refusal) → 0 ≡ number_of c.args.s (settle c.args.source)
+number c = c.in_ok-source_refusal.ensures ∙ sym (settle_number _ _)
 
-pub returns-then-why-ne0 : goal.returns-then-why-ne0
-returns-then-why-ne0 c = refused_as _ _ (c.source_refusal-why.ensures ∙ sym (settle_number _ _)) c.if-why-ne0.true
+pub returns-in_err-source_refusal : goal.returns-in_err-source_refusal
+returns-in_err-source_refusal c =
+    let p = err_from_is_err_and c.from_residual.result c.from_residual.ensures.1 in
+    rw (p.1, p.2) (refused_as _ _ (c.in_err-source_refusal.ensures ∙ sym (settle_number _ _)) (refused _))
 
-pub bounds-counts-source : goal.bounds-counts-source
-bounds-counts-source c = (went (goal.at.bounds-counts-source c).Else-why-ne0).source
+pub bounds-s-source : goal.bounds-s-source
+bounds-s-source c = (went (goal.at.bounds-s-source c).In_ok-source_refusal).source
 
-pub overflow_cast-n : goal.overflow_cast-n
-overflow_cast-n c = omega (arith, (went (goal.at.overflow_cast-n c).Else-why-ne0).few)
+pub returns-then-n-eq0 : goal.returns-then-n-eq0
+returns-then-n-eq0 c =
+    accepted_as _ _ (number (goal.at.returns-then-n-eq0 c).In_ok-source_refusal) refl (settled_none _ _ c.if-n-eq0.true)
 
 pub keep-last-requires : goal.keep-last-requires
 keep-last-requires c =
-    let w = went (goal.at.keep-last-requires c).Else-why-ne0 in
-    (w.source, omega (arith, w.few))
+    let w = went (goal.at.keep-last-requires c).In_ok-source_refusal in
+    (w.source, omega (arith, w.few, c.if-n-eq0.false))
 
 pub stood-requires : goal.stood-requires
-stood-requires c = (went (goal.at.stood-requires c).Else-why-ne0).source
-
-pub returns-then-n-gt0 : goal.returns-then-n-gt0
-returns-then-n-gt0 c =
-    accepted_as _ _ (number (goal.at.returns-then-n-gt0 c).Else-why-ne0) c.if-why-ne0.false
-    (settled_as _ _ (λ z. omega (arith, c.if-n-gt0.true)) c.keep-last.ensures c.stood.ensures)
+stood-requires c = (went (goal.at.stood-requires c).In_ok-source_refusal).source
 
 pub returns : goal.returns
 returns c =
-    accepted_as _ _ (number (goal.at.returns c).Else-why-ne0) c.if-why-ne0.false (settled_none _ _ (omega arith))
+    accepted_as _ _ (number (goal.at.returns c).In_ok-source_refusal) refl
+    (settled_as _ _ c.if-n-eq0.false c.keep-last.ensures c.stood.ensures)
