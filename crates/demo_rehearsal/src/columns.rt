@@ -124,7 +124,7 @@ pub fn float(rt: &impl Print, x: f32, places: u32, width: usize)
 {
     let size = demo_decimal::decimal(x, places);
     match size {
-        Size::Steps(n) => steps(rt, float_order::sign_bit32(x), n, places, width),
+        Size::Steps(n) => steps(rt, float_order::sign_bit(x), n, places, width),
         Size::Large => right(rt, b"large", width),
         Size::Nan => right(rt, b"nan", width),
     }

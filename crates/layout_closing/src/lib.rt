@@ -59,7 +59,7 @@ fn nearest_product(pts: &[[f64; 3]], c: [f64; 3]) -> f64
     // −∞. Origin: vbap.rs line 384
     let mut g = -1.0 / 0.0;
     for p in pts {
-        g = float_order::max64(g, vector::dot(*p, c));
+        g = float_order::max(g, vector::dot(*p, c));
     }
     g
 }

@@ -134,7 +134,7 @@ fn outward(plane: Plane) -> Face
 fn is_near(c: f64) -> bool
     ensures { result ≡ true → Near c }
 {
-    float_order::abs64(c) <= LARGEST
+    float_order::abs(c) <= LARGEST
 }
 
 // Whether a point's coordinates are.

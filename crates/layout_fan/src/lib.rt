@@ -57,7 +57,7 @@ fn is_lowest(i: usize, numbers: &[usize]) -> bool
 fn helper_axis(nrm: [f64; 3]) -> [f64; 3]
     ensures { result ≡ helper nrm }
 {
-    if float_order::abs64(nrm[0]) < STEEP {
+    if float_order::abs(nrm[0]) < STEEP {
         return [1.0, 0.0, 0.0];
     }
     [0.0, 1.0, 0.0]
@@ -88,7 +88,7 @@ fn spot(basis: Basis, first: f64, p: usize, at: [f64; 3]) -> Spot
     ensures { result ≡ spot_of basis first p at }
 {
     Spot {
-        angle: float_order::rem_euclid64(angle(basis, at) - first, float_sine::TWO_PI),
+        angle: float_order::rem_euclid(angle(basis, at) - first, float_sine::TWO_PI),
         number: p,
     }
 }

@@ -116,7 +116,7 @@ pub fn hull_triplets(pts: &[[f64; 3]]) -> Hull
                 let b = pts[j];
                 let c = pts[k];
                 let det = determinant(a, b, c);
-                if float_order::abs64(det) < LEAST_DETERMINANT {
+                if float_order::abs(det) < LEAST_DETERMINANT {
                     continue 'third;
                 }
                 let p = h.count;

@@ -62,7 +62,7 @@ impl ActiveSpeakers {
         ensures { result ≡ every level self.now }
     {
         for i in 0..self.count {
-            let height = float_order::abs64(self.dir[i * 3 + 1]);
+            let height = float_order::abs(self.dir[i * 3 + 1]);
             if !(height <= PLANAR_MAX_HEIGHT) {
                 return false;
             }

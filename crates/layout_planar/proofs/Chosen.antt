@@ -44,7 +44,7 @@ module _ (ax az bx bz : Float) where
   unfolding inverse_law minor
   law_inverse h = sym (cond_no Crossfade inverse h)
 
-module _ (a b : SinCos) (gap : Float) where
+module _ (a b : SinCos Float) (gap : Float) where
   abbrev by_inverse : Law
   by_inverse = inverse_law a.sin (neg a.cos) b.sin (neg b.cos)
 
@@ -57,12 +57,12 @@ module _ (a b : SinCos) (gap : Float) where
   law_far h = sym (cond_no by_inverse Crossfade h)
 
 -- by the sines and cosines of two azimuths it is their law
-pub law_told : (azA azB gap : Float) {a b : SinCos} → a ≡ sin_cos_of azA → b ≡ sin_cos_of azB → law_by a b gap ≡ law_of azA azB gap
+pub law_told : (azA azB gap : Float) {a b : SinCos Float} → a ≡ sin_cos_of azA → b ≡ sin_cos_of azB → law_by a b gap ≡ law_of azA azB gap
 unfolding law_by law_of
 law_told azA azB gap ea eb = rw (ea, eb) refl
 
 -- a record of a sine and a cosine
-pub both_told : (az : Float) {t : SinCos} → (t.sin ≡ sin_of az) × (t.cos ≡ cos_of az) → t ≡ sin_cos_of az
+pub both_told : (az : Float) {t : SinCos Float} → (t.sin ≡ sin_of az) × (t.cos ≡ cos_of az) → t ≡ sin_cos_of az
 both_told az e = ap₂ (λ (s c : Float). record { sin = s; cos = c }) e.0 e.1
 
 module _ (g : Float) (s t : Spot) where

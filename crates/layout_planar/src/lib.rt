@@ -94,7 +94,7 @@ fn spots(out: &[u8; 40], dir: &[f64; 120], n: usize) -> [Spot; 53]
 fn gap_at(m: usize, i: usize, az_a: f64, az_b: f64) -> f64
     ensures { result ≡ gap_at m i az_a az_b }
 {
-    let gap = float_order::rem_euclid64(az_b - az_a, float_sine::TWO_PI);
+    let gap = float_order::rem_euclid(az_b - az_a, float_sine::TWO_PI);
     if (m == 2) & (i == 1) & (gap < LEAST_SECOND_GAP) {
         return float_sine::TWO_PI;
     }
@@ -106,7 +106,7 @@ fn inverse_law(ax: f64, az: f64, bx: f64, bz: f64) -> Law
     ensures { result ≡ inverse_law ax az bx bz }
 {
     let det = ax * bz - bx * az;
-    if float_order::abs64(det) < LEAST_PAIR_DETERMINANT {
+    if float_order::abs(det) < LEAST_PAIR_DETERMINANT {
         return Law::Crossfade;
     }
     Law::Inverse(
@@ -118,7 +118,7 @@ fn inverse_law(ax: f64, az: f64, bx: f64, bz: f64) -> Law
 }
 
 // The law of a pair by the sines and cosines of its two azimuths, with the gap between them.
-fn law_of(a: SinCos, b: SinCos, gap: f64) -> Law
+fn law_of(a: SinCos<f64>, b: SinCos<f64>, gap: f64) -> Law
     ensures { result ≡ law_by a b gap }
 {
     if float_widths::narrow(gap) < MAX_VBAP_GAP {
@@ -128,7 +128,7 @@ fn law_of(a: SinCos, b: SinCos, gap: f64) -> Law
 }
 
 // The pair from spot s to spot t, whose sines and cosines are a and b, with the gap g; a gap below 1e-6 makes none.
-fn pair_of(g: f64, s: Spot, t: Spot, a: SinCos, b: SinCos) -> Joined
+fn pair_of(g: f64, s: Spot, t: Spot, a: SinCos<f64>, b: SinCos<f64>) -> Joined
     requires s_value { (slot_fits s ≡ true) × (slot_fits t ≡ true) }
     requires a_value { (a ≡ sin_cos_of s.angle) × (b ≡ sin_cos_of t.angle) }
     ensures { result ≡ joined_of (pair_of g s t) }

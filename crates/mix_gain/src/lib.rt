@@ -23,5 +23,5 @@ pub fn normalized_lerp_gain(from: f32, to: f32, dot: f32, t: f32) -> f32
 {
     let at = float_order::clamp(t);
     (from + (to - from) * at)
-        / float_root::sqrt32(float_order::max32(norm_sq(at, dot), LEAST_MIX_NORM_SQ))
+        / float_root::sqrt32(float_order::max(norm_sq(at, dot), LEAST_MIX_NORM_SQ))
 }

@@ -21,7 +21,7 @@ fn to_real(out: &mut [f32], slots: &[u8], p: u8, g: f32)
 {
     let p = p as usize;
     if p < slots.len() {
-        row_places::add_at(out, slots[p], float_order::max32(g, 0.0));
+        row_places::add_at(out, slots[p], float_order::max(g, 0.0));
     }
 }
 
@@ -32,7 +32,7 @@ fn to_imag(sums: &mut [f32; MAX_IMAGINARY], n: u8, p: u8, g: f32)
 {
     if n <= p {
         let k = ((p - n) as usize).min(LAST);
-        sums[k] += float_order::max32(g, 0.0);
+        sums[k] += float_order::max(g, 0.0);
     }
 }
 

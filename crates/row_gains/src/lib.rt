@@ -15,7 +15,7 @@ use refusals::Refusal;
 pub fn finite_or_0(x: f32) -> f32
     ensures { result ≡ finite_or0 x }
 {
-    if float_order::is_finite32(x) { x } else { 0.0 }
+    if float_order::is_finite(x) { x } else { 0.0 }
 }
 
 // The row of the record's kind, in all places of out.

@@ -38,7 +38,7 @@ struct PairGains {
 fn rel_of(az: f32, p: &PlanarPair) -> f32
     ensures { result ≡ rel az p.now }
 {
-    float_order::rem_euclid32(az - p.start, TAU)
+    float_order::rem_euclid(az - p.start, TAU)
 }
 
 // Whether the azimuth lies in the pair's gap.
@@ -73,8 +73,8 @@ fn by_inverse(az: f32, m0: f32, m1: f32, m2: f32, m3: f32) -> PairGains
     let px = t.sin;
     let pz = -t.cos;
     PairGains {
-        ga: float_order::max32(m0 * px + m1 * pz, 0.0),
-        gb: float_order::max32(m2 * px + m3 * pz, 0.0),
+        ga: float_order::max(m0 * px + m1 * pz, 0.0),
+        gb: float_order::max(m2 * px + m3 * pz, 0.0),
     }
 }
 
@@ -94,8 +94,8 @@ fn by_crossfade(r: f32, gap: f32) -> PairGains
 {
     let t = float_sine::sin_cos32(shape(float_order::clamp(r / gap)) * FRAC_PI_2);
     PairGains {
-        ga: float_order::max32(t.cos, 0.0),
-        gb: float_order::max32(t.sin, 0.0),
+        ga: float_order::max(t.cos, 0.0),
+        gb: float_order::max(t.sin, 0.0),
     }
 }
 
@@ -117,7 +117,7 @@ fn planar_spread(el: f32) -> f32
     ensures { result ≡ planar_spread el }
 {
     let lo = PLANAR_MAX_ELEVATION;
-    let t = float_order::clamp((float_order::abs32(el) - lo) / (FRAC_PI_2 - lo));
+    let t = float_order::clamp((float_order::abs(el) - lo) / (FRAC_PI_2 - lo));
     // inside the planar band the sine of nothing is nothing
     if t == 0.0 {
         return 0.0;

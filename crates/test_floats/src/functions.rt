@@ -62,12 +62,12 @@ fn of_single(place: usize, x: f32) -> Answer {
     match place {
         0 => one(pattern32(float_root::sqrt32(x))),
         1 => one(pattern32(float_order::clamp(x))),
-        2 => one(pattern32(float_order::abs32(x))),
+        2 => one(pattern32(float_order::abs(x))),
         3 => one(pattern32(float_order::powi4(x))),
         4 => one(pattern32(float_sine::sin32(x))),
         5 => one(pattern32(float_sine::cos32(x))),
-        6 => one(truth(float_order::is_finite32(x))),
-        7 => one(truth(float_order::sign_bit32(x))),
+        6 => one(truth(float_order::is_finite(x))),
+        7 => one(truth(float_order::sign_bit(x))),
         8 => one(pattern64(float_widths::widen(x))),
         _ => {
             let r = float_sine::sin_cos32(x);
@@ -81,21 +81,21 @@ fn of_single(place: usize, x: f32) -> Answer {
 
 fn of_singles(place: usize, x: f32, y: f32) -> Answer {
     match place {
-        10 => one(pattern32(float_order::max32(x, y))),
+        10 => one(pattern32(float_order::max(x, y))),
         11 => one(pattern32(float_order::min32(x, y))),
-        _ => one(pattern32(float_order::rem_euclid32(x, y))),
+        _ => one(pattern32(float_order::rem_euclid(x, y))),
     }
 }
 
 fn of_double(place: usize, x: f64) -> Answer {
     match place {
         13 => one(pattern64(float_root::sqrt64(x))),
-        14 => one(pattern64(float_order::abs64(x))),
+        14 => one(pattern64(float_order::abs(x))),
         15 => one(pattern64(float_sine::sin(x))),
         16 => one(pattern64(float_sine::cos(x))),
         17 => one(pattern64(float_arctangent::atan(x))),
-        18 => one(truth(float_order::is_finite64(x))),
-        19 => one(truth(float_order::sign_bit64(x))),
+        18 => one(truth(float_order::is_finite(x))),
+        19 => one(truth(float_order::sign_bit(x))),
         20 => one(pattern32(float_widths::narrow(x))),
         _ => {
             let r = float_sine::sin_cos(x);
@@ -109,8 +109,8 @@ fn of_double(place: usize, x: f64) -> Answer {
 
 fn of_doubles(place: usize, x: f64, y: f64) -> Answer {
     match place {
-        22 => one(pattern64(float_order::max64(x, y))),
-        23 => one(pattern64(float_order::rem_euclid64(x, y))),
+        22 => one(pattern64(float_order::max(x, y))),
+        23 => one(pattern64(float_order::rem_euclid(x, y))),
         _ => one(pattern64(float_arctangent::atan2(x, y))),
     }
 }

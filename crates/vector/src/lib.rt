@@ -17,7 +17,7 @@ pub fn unit(p: [f32; 3]) -> Option<[f64; 3]>
 {
     let v = widened(p);
     let l = length64(v);
-    if (l <= SHORTEST) | !float_order::is_finite64(l) {
+    if (l <= SHORTEST) | !float_order::is_finite(l) {
         return None;
     }
     Some(over(v, l))

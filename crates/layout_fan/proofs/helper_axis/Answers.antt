@@ -4,10 +4,10 @@ use lib.Ieee.{of_bits}
 use Rattle.layout_fan.specs.Fan.{helper}
 use Rattle.layout_fan.proofs.helper_axis.Goals as goal
 
-pub returns-then-abs64 : goal.returns-then-abs64
+pub returns-then-abs : goal.returns-then-abs
 unfolding helper of_bits
-returns-then-abs64 c = rw (← c.abs64.ensures, c.if-abs64.true) refl
+returns-then-abs c = rw (← c.abs.ensures, c.if-abs.true) refl
 
 pub returns : goal.returns
 unfolding helper of_bits
-returns c = rw (← c.abs64.ensures, c.if-abs64.false) refl
+returns c = rw (← c.abs.ensures, c.if-abs.false) refl

@@ -35,17 +35,17 @@ pub third-preserved-then-not-in_fan : goal.third-preserved-then-not-in_fan
 third-preserved-then-not-in_fan c =
     turn_out c.args.pts.now c.first.i c.second.j c.third.k c.third.h c.third.invariant c.third-test.true c.face_test.ensures c.in-Outward.is c.in_fan.ensures c.if-not-in_fan.true
 
-pub third-preserved-then-abs64 : goal.third-preserved-then-abs64
-third-preserved-then-abs64 c =
-    turn_small c.args.pts.now c.first.i c.second.j c.third.k c.third.h c.third.invariant c.third-test.true c.face_test.ensures c.in-Outward.is c.in_fan.ensures c.if-not-in_fan.false c.determinant-det.ensures c.abs64.ensures c.if-abs64.true
+pub third-preserved-then-abs : goal.third-preserved-then-abs
+third-preserved-then-abs c =
+    turn_small c.args.pts.now c.first.i c.second.j c.third.k c.third.h c.third.invariant c.third-test.true c.face_test.ensures c.in-Outward.is c.in_fan.ensures c.if-not-in_fan.false c.determinant-det.ensures c.abs.ensures c.if-abs.true
 
 pub third-preserved-then-p-ge-MOST_TRIPLETS : goal.third-preserved-then-p-ge-MOST_TRIPLETS
 third-preserved-then-p-ge-MOST_TRIPLETS c =
-    turn_full c.args.pts.now c.first.i c.second.j c.third.k c.third.h c.third.invariant c.third-test.true c.face_test.ensures c.in-Outward.is c.in_fan.ensures c.if-not-in_fan.false c.determinant-det.ensures c.abs64.ensures c.if-abs64.false c.if-p-ge-MOST_TRIPLETS.true
+    turn_full c.args.pts.now c.first.i c.second.j c.third.k c.third.h c.third.invariant c.third-test.true c.face_test.ensures c.in-Outward.is c.in_fan.ensures c.if-not-in_fan.false c.determinant-det.ensures c.abs.ensures c.if-abs.false c.if-p-ge-MOST_TRIPLETS.true
 
 pub third-preserved : goal.third-preserved
 third-preserved c =
-    turn_keep c.args.pts.now c.first.i c.second.j c.third.k c.third.h c.third.invariant c.third-test.true c.face_test.ensures c.in-Outward.is c.in_fan.ensures c.if-not-in_fan.false c.determinant-det.ensures c.abs64.ensures c.if-abs64.false c.if-p-ge-MOST_TRIPLETS.false c.inverse-m.ensures c.put_numbers.ensures c.put_inverse.ensures
+    turn_keep c.args.pts.now c.first.i c.second.j c.third.k c.third.h c.third.invariant c.third-test.true c.face_test.ensures c.in-Outward.is c.in_fan.ensures c.if-not-in_fan.false c.determinant-det.ensures c.abs.ensures c.if-abs.false c.if-p-ge-MOST_TRIPLETS.false c.inverse-m.ensures c.put_numbers.ensures c.put_inverse.ensures
 
 pub second-preserved : goal.second-preserved
 second-preserved c =

@@ -4,7 +4,7 @@ use Rattle.layout_planar.proofs.Chosen.{gap_round, gap_plain}
 use Rattle.layout_planar.proofs.gap_at.Goals as goal
 
 pub returns-then-m-i : goal.returns-then-m-i
-returns-then-m-i c = gap_round _ _ _ _ (rw (← c.rem_euclid64-gap.ensures) c.if-m-i.true)
+returns-then-m-i c = gap_round _ _ _ _ (rw (← c.rem_euclid-gap.ensures) c.if-m-i.true)
 
 pub returns : goal.returns
-returns c = c.rem_euclid64-gap.ensures ∙ gap_plain _ _ _ _ (rw (← c.rem_euclid64-gap.ensures) c.if-m-i.false)
+returns c = c.rem_euclid-gap.ensures ∙ gap_plain _ _ _ _ (rw (← c.rem_euclid-gap.ensures) c.if-m-i.false)

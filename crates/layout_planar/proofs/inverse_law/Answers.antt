@@ -3,12 +3,12 @@ use Rattle.vector.specs.Vector.{minor}
 use Rattle.layout_planar.proofs.Chosen.{law_flat, law_inverse}
 use Rattle.layout_planar.proofs.inverse_law.Goals as goal
 
-pub returns-then-abs64 : goal.returns-then-abs64
+pub returns-then-abs : goal.returns-then-abs
 unfolding minor
-returns-then-abs64 c = law_flat _ _ _ _ (rw (← c.abs64.ensures) c.if-abs64.true)
+returns-then-abs c = law_flat _ _ _ _ (rw (← c.abs.ensures) c.if-abs.true)
 
 pub returns : goal.returns
 unfolding minor
 returns c =
     rw (c.narrow-4.ensures, c.narrow-3.ensures, c.narrow-2.ensures, c.narrow.ensures)
-    (law_inverse _ _ _ _ (rw (← c.abs64.ensures) c.if-abs64.false))
+    (law_inverse _ _ _ _ (rw (← c.abs.ensures) c.if-abs.false))

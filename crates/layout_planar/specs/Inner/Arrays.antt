@@ -26,11 +26,11 @@ unfoldable pub slot_fits : Spot → Bool
 slot_fits s = nat_lt s.number 256
 
 -- the sine and the cosine of an azimuth, as the code has them
-abbrev pub sin_cos_of : Float → SinCos
+abbrev pub sin_cos_of : Float → SinCos Float
 sin_cos_of az = record { sin = sin_of az; cos = cos_of az }
 
 -- the law of a pair by the sines and cosines of its two azimuths
-unfoldable pub law_by : SinCos → SinCos → Float → Law
+unfoldable pub law_by : SinCos Float → SinCos Float → Float → Law
 law_by a b gap = cond (lt (narrow_of gap) max_vbap_gap) (inverse_law a.sin (neg a.cos) b.sin (neg b.cos)) Crossfade
 
 -- the cases of Option as the code has them

@@ -10,5 +10,5 @@ pub returns : goal.returns
 unfolding normalized_lerp_gain_of
 returns c =
     let a = c.args in
-    rw (c.sqrt32.ensures, c.max32.ensures, c.norm_sq.ensures)
+    rw (c.sqrt32.ensures, c.max.ensures, c.norm_sq.ensures)
     (ap (λ (t : Float). div binary32 (add binary32 a.from (mul binary32 (sub binary32 a.to a.from) t)) (sqrt_of binary32 (max_of (norm_sq_of t a.dot) least_mix_norm_sq))) c.clamp-at.ensures)

@@ -7,8 +7,8 @@ use Rattle.row_planar.proofs.planar_spread.Goals as goal
 
 pub returns-then-t : goal.returns-then-t
 unfolding planar_spread of_bits
-returns-then-t c = rw (← c.abs32.ensures, ← c.clamp-t.ensures) (still_spread c.clamp-t.result c.if-t.true)
+returns-then-t c = rw (← c.abs.ensures, ← c.clamp-t.ensures) (still_spread c.clamp-t.result c.if-t.true)
 
 pub returns : goal.returns
 unfolding planar_spread square_of
-returns c = rw (c.sin32-s.ensures, c.clamp-t.ensures, c.abs32.ensures)
+returns c = rw (c.sin32-s.ensures, c.clamp-t.ensures, c.abs.ensures)

@@ -51,13 +51,13 @@ unfolding of_bits
 returns-then-not-height c =
     let i = c.self.inside in
     sym (ap (every level) (sym c.self.view_is) ∙ level_is (held_in i.out i.dir i.count)
-    ∙ not-level i.dir c.loop-i.i i.count c.loop-i-test.true (level-here i.dir c.loop-i.i c.abs64-height.ensures ∙ c.if-not-height.true))
+    ∙ not-level i.dir c.loop-i.i i.count c.loop-i-test.true (level-here i.dir c.loop-i.i c.abs-height.ensures ∙ c.if-not-height.true))
 
 pub loop-i-preserved : goal.loop-i-preserved
 unfolding of_bits
 loop-i-preserved c =
     let i = c.self.inside in
-    more-level i.dir c.loop-i.i c.loop-i.invariant (level-here i.dir c.loop-i.i c.abs64-height.ensures ∙ c.if-not-height.false)
+    more-level i.dir c.loop-i.i c.loop-i.invariant (level-here i.dir c.loop-i.i c.abs-height.ensures ∙ c.if-not-height.false)
 
 pub returns : goal.returns
 returns c =
