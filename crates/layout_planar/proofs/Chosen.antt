@@ -1,5 +1,5 @@
 -- The branches of the planar definitions. Assumes nothing.
-use Rattle.std.proofs.Common.{◌≡◌, ℕ, ◌<◌, true, false, ◌&&◌, eqb, sym, refl, ap₂, ltb-true}
+use Rattle.std.proofs.Common.{◌≡◌, ℕ, ◌<◌, true, false, ◌&&◌, eqb, sym, refl, ap₂, ltb-true, None, Some}
 use lib.Ieee.{Float, binary64, sub, neg, div, lt}
 use Rattle.lists.proofs.Tests.{cond_yes, cond_no}
 use Rattle.float_order.specs.Values.{abs}
@@ -12,9 +12,8 @@ use Rattle.vector.specs.Vector.{minor}
 use Rattle.angle_sort.specs.declared.Spot.{Spot}
 use Rattle.layout_planar.specs.declared.Law.{Law}
 use Rattle.layout_planar.specs.declared.Law.TheVariants.{Inverse, Crossfade}
-use Rattle.layout_planar.specs.declared.Joined.TheVariants.{Coincident, Pair}
 use Rattle.layout_planar.specs.Planar.{least_second_gap, least_pair_determinant, coincident, max_vbap_gap, gap_at, inverse_law, law_of, pair_of}
-use Rattle.layout_planar.specs.Inner.Arrays.{slot_fits, sin_cos_of, law_by, joined_of}
+use Rattle.layout_planar.specs.Inner.Arrays.{slot_fits, sin_cos_of, law_by, told_of}
 
 module _ (m i : ℕ) (azA azB : Float) where
   abbrev plain_gap : Float
@@ -66,14 +65,14 @@ pub both_told : (az : Float) {t : SinCos Float} → (t.sin ≡ sin_of az) × (t.
 both_told az e = ap₂ (λ (s c : Float). record { sin = s; cos = c }) e.0 e.1
 
 module _ (g : Float) (s t : Spot) where
-  pub pair_none : lt g coincident ≡ true → Coincident ≡ joined_of (pair_of g s t)
-  unfolding pair_of joined_of
+  pub pair_none : lt g coincident ≡ true → None ≡ told_of (pair_of g s t)
+  unfolding pair_of told_of
   pair_none h = rw h
 
   pub pair_some : lt g coincident ≡ false
-      → Pair (record { start = narrow_of s.angle; gap = narrow_of g; a = s.number; b = t.number; law = law_of s.angle t.angle g })
-      ≡ joined_of (pair_of g s t)
-  unfolding pair_of joined_of
+      → Some (record { start = narrow_of s.angle; gap = narrow_of g; a = s.number; b = t.number; law = law_of s.angle t.angle g })
+      ≡ told_of (pair_of g s t)
+  unfolding pair_of told_of
   pair_some h = rw h
 
 pub slot_fits_lem : (s : Spot) → slot_fits s ≡ true → s.number < 256

@@ -1,12 +1,12 @@
 // The pairs of a planar layout.
-// Lengths of arrays: 40 speakers (document 01, refusal 2), so at most 40 pairs, and three numbers a direction, 120. 53 is the room of crate angle_sort: of 54 points, 40 speakers and 14 imaginary ones (vbap.rs line 60), all but one.
+// Lengths of arrays: 40 speakers (document 01, refusal 2), so at most 40 spots and 40 pairs, and three numbers a direction, 120.
 #![tactic(auto)]
 
-ghost use Rattle.std.specs.Prelude.{◌≡◌, ◌+◌, ◌*◌, ◌<◌, ◌≤◌, true, map, length, replicate};
-ghost use Rattle.lists.specs.Lists.{every, filled, part};
+ghost use Rattle.std.specs.Prelude.{◌≡◌, ◌≤◌, true, map, take, replicate};
+ghost use Rattle.lists.specs.Lists.{every};
 ghost use Rattle.vector.specs.Speakers.{speakers_in};
-ghost use Rattle.layout_planar.specs.Planar.{spot_of, gap_at, inverse_law, pair_of, no_pair};
-ghost use Rattle.layout_planar.specs.Inner.Arrays.{no_spot, slot_fits, sin_cos_of, law_by, joined_of, planar_in};
+ghost use Rattle.layout_planar.specs.Planar.{spot_of, ring, gap_at, inverse_law, pair_of, no_pair};
+ghost use Rattle.layout_planar.specs.Inner.Arrays.{slot_fits, sin_cos_of, law_by, told_of, planar_in};
 
 use angle_sort::Spot;
 use float_sine::SinCos;
@@ -28,18 +28,11 @@ pub struct PlanarPair {
     pub law: Law,
 }
 
-// The pairs in the order of the ring, and how many there are.
+// The pairs in the order of the ring, and how many there are: an array by value with its count, since no layout asks for memory.
 #[derive(Clone, Copy)]
 pub struct Planar {
     pub pairs: [PlanarPair; 40],
     pub num_pairs: usize,
-}
-
-// What two neighbours on the ring make.
-#[derive(Clone, Copy)]
-enum Joined {
-    Coincident,
-    Pair(PlanarPair),
 }
 
 // Origin: vbap.rs line 232; below it the second gap of two speakers is the whole circle.
@@ -54,14 +47,6 @@ const COINCIDENT: f64 = 1e-6;
 // Just under pi: the 32-bit pi less 1e-3. Origin: vbap.rs line 55; a pair with this gap or more has the crossfade.
 const MAX_VBAP_GAP: f32 = 3.1405928;
 
-// The direction of speaker i. A reference does not tell the proof how long its array is, so the caller says it.
-fn direction(dir: &[f64; 120], i: usize) -> [f64; 3]
-    requires { (i < 40) × (length dir.now ≡ 120) }
-    ensures { result ≡ part 3 dir.now i }
-{
-    [dir[i * 3], dir[i * 3 + 1], dir[i * 3 + 2]]
-}
-
 // The azimuth and the slot of a speaker.
 fn spot(slot: u8, dir: [f64; 3]) -> Spot
     ensures is { result ≡ spot_of (record { slot = slot; dir = dir }) }
@@ -73,20 +58,31 @@ fn spot(slot: u8, dir: [f64; 3]) -> Spot
     }
 }
 
-// The azimuths and slots of n speakers, in slot order.
-fn spots(out: &[u8; 40], dir: &[f64; 120], n: usize) -> [Spot; 53]
-    requires { (n ≤ 40) × (length dir.now ≡ 120) }
-    ensures are { result ≡ filled 53 no_spot (map spot_of (speakers_in n out.now dir.now)) }
+// The azimuths and slots of n speakers, in slot order, in the array's first places.
+fn spots(out: &[u8; 40], dir: &[f64; 120], n: usize) -> [Spot; 40]
+    requires { n ≤ 40 }
+    ensures are { take n result ≡ map spot_of (speakers_in n out.now dir.now) }
     ensures slots { every slot_fits (map spot_of (speakers_in n out.now dir.now)) ≡ true }
 {
     let mut a = [Spot {
         angle: 0.0,
         number: 0,
-    }; 53];
+    }; 40];
     for i in 0..n {
-        let s = spot(out[i], direction(dir, i));
+        let s = spot(out[i], vector::point(dir, i));
         a[i] = s;
     }
+    a
+}
+
+// The same in ascending order of their azimuths, equals in slot order.
+fn sorted_spots(out: &[u8; 40], dir: &[f64; 120], n: usize) -> [Spot; 40]
+    requires { n ≤ 40 }
+    ensures are { take n result ≡ ring (speakers_in n out.now dir.now) }
+    ensures slots { every slot_fits (take n result) ≡ true }
+{
+    let mut a = spots(out, dir, n);
+    angle_sort::sort(&mut a[..n]);
     a
 }
 
@@ -128,16 +124,16 @@ fn law_of(a: SinCos<f64>, b: SinCos<f64>, gap: f64) -> Law
 }
 
 // The pair from spot s to spot t, whose sines and cosines are a and b, with the gap g; a gap below 1e-6 makes none.
-fn pair_of(g: f64, s: Spot, t: Spot, a: SinCos<f64>, b: SinCos<f64>) -> Joined
+fn pair_of(g: f64, s: Spot, t: Spot, a: SinCos<f64>, b: SinCos<f64>) -> Option<PlanarPair>
     requires s_value { (slot_fits s ≡ true) × (slot_fits t ≡ true) }
     requires a_value { (a ≡ sin_cos_of s.angle) × (b ≡ sin_cos_of t.angle) }
-    ensures { result ≡ joined_of (pair_of g s t) }
+    ensures { result ≡ told_of (pair_of g s t) }
 {
     if g < COINCIDENT {
-        return Joined::Coincident;
+        return None;
     }
     let law = law_of(a, b, g);
-    Joined::Pair(PlanarPair {
+    Some(PlanarPair {
         start: float_widths::narrow(s.angle),
         gap: float_widths::narrow(g),
         a: s.number as u8,
@@ -170,23 +166,23 @@ pub fn no_pairs() -> [PlanarPair; 40]
 // The pairs of the ring that n active speakers make: their slots, and three numbers a direction.
 // The sine and the cosine of each spot serve the pair that ends at it and the one that starts there.
 pub fn build_planar(out: &[u8; 40], dir: &[f64; 120], n: usize) -> Planar
-    requires { (n ≤ 40) × (length dir.now ≡ 120) }
+    requires { n ≤ 40 }
     ensures { result ≡ planar_in n out.now dir.now }
 {
-    let a = angle_sort::sorted(spots(out, dir, n), n);
-    let none = no_pair();
-    let mut pairs = [none; 40];
-    let mut num_pairs: usize = 0;
+    let a = sorted_spots(out, dir, n);
+    let ring = &a[..n];
     let first = a[0];
     let mut here = float_sine::sin_cos(first.angle);
-    for i in 0..n {
-        let j = (i + 1) % n;
-        let s = a[i];
-        let t = a[j];
+    let mut pairs = no_pairs();
+    // fixed memory: the pairs stand in an array of 40, and how many there are beside it
+    let mut num_pairs: usize = 0;
+    for (i, s) in ring.iter().enumerate() {
+        let s = *s;
+        let t = ring[(i + 1) % n];
         let next = float_sine::sin_cos(t.angle);
-        let joined = pair_of(gap_at(n, i, s.angle, t.angle), s, t, here, next);
+        let pair = pair_of(gap_at(n, i, s.angle, t.angle), s, t, here, next);
         here = next;
-        let Joined::Pair(p) = joined else {
+        let Some(p) = pair else {
             continue;
         };
         pairs[num_pairs] = p;

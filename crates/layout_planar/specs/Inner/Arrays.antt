@@ -1,9 +1,9 @@
 -- Document 01, "Layout", the paragraph "Planar": the pairs in an array of 40 places, with their count. Unused places hold 0, +0 or the crossfade. Origin of 40: document 01, refusal 2. Assumes nothing.
-use Rattle.std.specs.Prelude.{ℕ, Bool, cond, List, length, nat_lt, Float}
+use Rattle.std.specs.Prelude as Code
+use Rattle.std.specs.Prelude.{ℕ, Bool, cond, List, length, nat_lt, None, Some, Float}
 use Rattle.std.proofs.Math.Option.{Option, none, some}
 use Rattle.std.specs.Float.Ieee.{neg, lt}
 use Rattle.lists.specs.Lists.{filled}
-use Rattle.float_order.specs.Values.{+0}
 use Rattle.float_widths.specs.Narrow.{narrow_of}
 use Rattle.float_sine.specs.Sine.{sin_of, cos_of}
 use Rattle.float_sine.specs.declared.SinCos.{SinCos}
@@ -13,13 +13,7 @@ use Rattle.layout_planar.specs.declared.Law.{Law}
 use Rattle.layout_planar.specs.declared.Law.TheVariants.{Crossfade}
 use Rattle.layout_planar.specs.declared.PlanarPair.{PlanarPair}
 use Rattle.layout_planar.specs.declared.Planar.{Planar}
-use Rattle.layout_planar.specs.declared.Joined.{Joined}
-use Rattle.layout_planar.specs.declared.Joined.TheVariants.{Coincident, Pair}
 use Rattle.layout_planar.specs.Planar.{max_vbap_gap, inverse_law, pairs_of, no_pair}
-
--- what an unused place of the ring holds
-abbrev pub no_spot : Spot
-no_spot = record { angle = +0; number = 0 }
 
 -- the spot's number fits the 8 bits of a slot. Origin of 256: 2 ^ 8.
 unfoldable pub slot_fits : Spot → Bool
@@ -33,10 +27,10 @@ sin_cos_of az = record { sin = sin_of az; cos = cos_of az }
 unfoldable pub law_by : SinCos Float → SinCos Float → Float → Law
 law_by a b gap = cond (lt (narrow_of gap) max_vbap_gap) (inverse_law a.sin (neg a.cos) b.sin (neg b.cos)) Crossfade
 
--- the cases of Option as the code has them
-unfoldable pub joined_of : Option PlanarPair → Joined
-joined_of none = Coincident
-joined_of (some p) = Pair p
+-- a pair or none, as the code has it
+unfoldable pub told_of : Option PlanarPair → Code.Option PlanarPair
+told_of none = None
+told_of (some p) = Some p
 
 -- the layout's pairs and their count, of n active speakers in two flat arrays
 unfoldable pub planar_in : ℕ → List ℕ → List Float → Planar
