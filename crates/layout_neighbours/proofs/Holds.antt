@@ -7,7 +7,7 @@ use native.Mathlib.Omega.{arith}
 use borrow.Author.Tests.{eq-eqb, ne_eqb, eqb-true, eqb-false}
 use lib.Dec.{eqb}
 use lib.ListN.{length, get_or, set, take, length-append, length-set}
-use lib.Seq.{get_or-set_same, get_or-set_other, get_or-take, length-take-le}
+use lib.Seq.{get_or-set_same, get_or-set_other}
 use Rattle.lists.specs.Lists.{member, is_empty}
 use Rattle.lists.proofs.Filled.{length_filled, take_filled, set_filled_at}
 use Rattle.lists.proofs.Tests.{or_right, or_none, empty_length}
@@ -16,11 +16,6 @@ use Rattle.layout_neighbours.specs.Neighbours.{Reach, reach}
 use Rattle.layout_neighbours.specs.Inner.Search.{Among, Arrays, Holds, Slots}
 use Rattle.layout_neighbours.proofs.Among.{among_snoc, among_few}
 use Rattle.layout_neighbours.proofs.Reaches.{with_slot, with_point, reach_listed, reach_found, reach_seen, reach_late, reach_visits}
-
--- the slots of the real points
-module _ {out : List ℕ} {nreal : ℕ} (s : Slots out nreal) where
-  pub slots_long : length (take nreal out) ≡ nreal
-  slots_long = length-take-le nreal out (omega arith)
 
 -- the arrays with a slot stored, and with a point marked
 abbrev stored : Arrays → ℕ → Arrays
@@ -92,45 +87,33 @@ module _ {nreal : ℕ} {r : Reach} {a : Arrays} (h : Holds nreal r a) where
 
 -- ---- a point, case by case
 
-module _ {out : List ℕ} {nreal : ℕ} (s : Slots out nreal) {r : Reach} {a : Arrays} (h : Holds nreal r a) (p : ℕ) where
-  module _ (real : p < nreal) where
-    within : p < length (take nreal out)
-    within = omega (arith, slots_long s)
+module _ {out : List ℕ} (s : Slots out) {r : Reach} {a : Arrays} (h : Holds (length out) r a) (p : ℕ) where
+  module _ (real : p < length out) where
+    listed : (b : Bool) → member (get_or out p 0) (take a.found a.nbrs) ≡ b → member (get_or out p 0) r.nbrs ≡ b
+    listed b e = ap (member (get_or out p 0)) (sym (front h)) ∙ e
 
-    slot : get_or (take nreal out) p 0 ≡ get_or out p 0
-    slot = get_or-take nreal out p 0 real
-
-    listed : (b : Bool) → member (get_or out p 0) (take a.found a.nbrs) ≡ b → member (get_or (take nreal out) p 0) r.nbrs ≡ b
-    listed b e = ap (λ (q : ℕ). member q r.nbrs) slot ∙ ap (member (get_or out p 0)) (sym (front h)) ∙ e
-
-    pub holds_listed : member (get_or out p 0) (take a.found a.nbrs) ≡ true → Holds nreal (reach (take nreal out) r p) a
-    holds_listed e = rw (reach_listed (take nreal out) r p within (listed true e)) h
+    pub holds_listed : member (get_or out p 0) (take a.found a.nbrs) ≡ true → Holds (length out) (reach out r p) a
+    holds_listed e = rw (reach_listed out r p real (listed true e)) h
 
     module _ (e : member (get_or out p 0) (take a.found a.nbrs) ≡ false) where
-      new : member (get_or out p 0) r.nbrs ≡ false
-      new = ap (member (get_or out p 0)) (sym (front h)) ∙ e
-
       pub room_found : a.found < 40
-      room_found = omega (arith, room h (get_or out p 0) (s.low p real) new, h.found)
+      room_found = omega (arith, room h (get_or out p 0) (s.low p real) (listed false e), h.found)
 
-      pub holds_found : Holds nreal (reach (take nreal out) r p) (stored a (get_or out p 0))
-      holds_found = rw (reach_found (take nreal out) r p within (listed false e), slot) (holds_slot h (get_or out p 0) (s.low p real) new)
+      pub holds_found : Holds (length out) (reach out r p) (stored a (get_or out p 0))
+      holds_found = rw (reach_found out r p real (listed false e)) (holds_slot h (get_or out p 0) (s.low p real) (listed false e))
 
-  module _ (imag : nreal ≤ p) where
-    beyond : length (take nreal out) ≤ p
-    beyond = omega (arith, slots_long s)
+  module _ (imag : length out ≤ p) where
+    pub holds_late : (a.found ≡ 0 → ⊥) → Holds (length out) (reach out r p) a
+    holds_late g = rw (reach_late out r p imag (none_found h ∙ ne_eqb a.found 0 g)) h
 
-    pub holds_late : (a.found ≡ 0 → ⊥) → Holds nreal (reach (take nreal out) r p) a
-    holds_late g = rw (reach_late (take nreal out) r p beyond (none_found h ∙ ne_eqb a.found 0 g)) h
-
-    module _ (high : p < nreal + 14) where
+    module _ (high : p < length out + 14) where
       seen_at : (b : Bool) → get_or a.visited p false ≡ b → member p r.visited ≡ b
       seen_at b e = sym (h.marks p (omega (arith, s.few))) ∙ e
 
-      pub holds_seen : get_or a.visited p false ≡ true → Holds nreal (reach (take nreal out) r p) a
-      holds_seen e = rw (reach_seen (take nreal out) r p beyond (seen_at true e)) h
+      pub holds_seen : get_or a.visited p false ≡ true → Holds (length out) (reach out r p) a
+      holds_seen e = rw (reach_seen out r p imag (seen_at true e)) h
 
-      pub holds_visited : get_or a.visited p false ≡ false → a.found ≡ 0 → Holds nreal (reach (take nreal out) r p) (marked a p)
+      pub holds_visited : get_or a.visited p false ≡ false → a.found ≡ 0 → Holds (length out) (reach out r p) (marked a p)
       holds_visited e g =
-          rw (reach_visits (take nreal out) r p beyond (seen_at false e) (none_found h ∙ eq-eqb a.found 0 g))
+          rw (reach_visits out r p imag (seen_at false e) (none_found h ∙ eq-eqb a.found 0 g))
           (holds_point h p imag high s.few (seen_at false e))

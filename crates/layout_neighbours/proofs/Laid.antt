@@ -4,7 +4,7 @@ use mathlib.Core.Path.{◌≡◌, refl, sym, ap, ◌∙◌}
 use mathlib.Core.List.{List, [], ◌∷◌, ◌++◌, map, map-append, flat_map, append_assoc}
 use native.Mathlib.Omega.{arith}
 use lib.ListN.{length, get_or, set, take, drop, replicate, length-append, length-map}
-use lib.Seq.{append_snoc, take_at, drop_at, get_or-take}
+use lib.Seq.{append_snoc, take_at, drop_at}
 use Rattle.lists.specs.Lists.{Once, from, filled, Each}
 use Rattle.lists.proofs.Ranges.{from_snoc, length_from}
 use Rattle.lists.proofs.Filled.{length_filled, set_filled_at}
@@ -12,11 +12,10 @@ use Rattle.lists.proofs.Collect.{flat_map_append}
 use Rattle.lists.proofs.Once.{not_member, once_snoc}
 use Rattle.layout_neighbours.specs.Neighbours.{Reach, reach, neighbours_of}
 use Rattle.layout_neighbours.specs.Inner.Flat.{neighbours_in}
-use Rattle.layout_neighbours.specs.Inner.Search.{Among, Slots, found_in}
-use Rattle.layout_neighbours.specs.declared.Found.{Found}
+use Rattle.layout_neighbours.specs.Inner.Search.{Among, Slots}
+use Rattle.layout_neighbours.specs.declared.Search.{Search}
 use Rattle.layout_neighbours.specs.declared.ImagNbrs.{ImagNbrs}
 use Rattle.layout_neighbours.proofs.Among.{among_none, among_snoc, among_few}
-use Rattle.layout_neighbours.proofs.Holds.{slots_long}
 use Rattle.lists.proofs.Each.{each_imply, each_map, each_from, each_filled, length_rows}
 use Rattle.layout_neighbours.proofs.Sound.{reach_keeps, pass_always, passes_keeps}
 
@@ -132,37 +131,14 @@ module _ (l : List ℕ) (ts : List (List ℕ)) where
 pub both : {a b : List ℕ} (r : ImagNbrs) → a ≡ r.num_nbrs → b ≡ r.imag_nbrs → record { num_nbrs = a; imag_nbrs = b } ≡ r
 both r e g = rw (e, g)
 
--- ---- a turn: f holds the neighbours of the next point
+-- ---- a turn: the search holds the neighbours of the next point
 
-module _ {out : List ℕ} {nreal : ℕ} (s : Slots out nreal) (ts : List (List ℕ)) (k : ℕ) (h : k < 14) {f : Found} (e : f ≡ found_in (neighbours_of (take nreal out) ts (nreal + k))) where
-  low : (i : ℕ) → i < length (take nreal out) → get_or (take nreal out) i 0 < 40
-  low i g =
-      let m : i < nreal = omega (arith, slots_long s) in
-      rw (get_or-take nreal out i 0 m) (s.low i m)
+module _ {out : List ℕ} (s : Slots out) (ts : List (List ℕ)) (k : ℕ) (h : k < 14) (p : ℕ) (e : p ≡ length out + k) (a : Search) (holds : a.nbrs ≡ filled 40 0 (neighbours_of out ts p)) (counts : a.found ≡ length (neighbours_of out ts p)) where
+  pub count_few : a.found ≤ 40
+  count_few = omega (arith, counts, neighbours_few out ts p s.low)
 
-  next : neighbours_of (take nreal out) ts (length (take nreal out) + k) ≡ neighbours_of (take nreal out) ts (nreal + k)
-  next = ap (λ (n : ℕ). neighbours_of (take nreal out) ts (n + k)) (slots_long s)
+  pub turn_nums : {nums : List ℕ} → nums ≡ (neighbours_in out ts k).num_nbrs → set nums k a.found ≡ (neighbours_in out ts (k + 1)).num_nbrs
+  turn_nums g = rw (g, counts, e) (sym (nums_more out ts k h))
 
-  counts : f.count ≡ length (neighbours_of (take nreal out) ts (nreal + k))
-  unfolding found_in
-  counts = ap (λ (x : Found). x.count) e
-
-  holds : f.nbrs ≡ filled 40 0 (neighbours_of (take nreal out) ts (nreal + k))
-  unfolding found_in
-  holds = ap (λ (x : Found). x.nbrs) e
-
-  pub count_few : f.count ≤ 40
-  count_few = omega (arith, counts, neighbours_few (take nreal out) ts (nreal + k) low)
-
-  pub found_long : length f.nbrs ≡ 40
-  found_long = ap length holds ∙ length_filled 40 0 (neighbours_of (take nreal out) ts (nreal + k)) (neighbours_few (take nreal out) ts (nreal + k) low)
-
-  pub turn_nums : {nums : List ℕ} → nums ≡ (neighbours_in (take nreal out) ts k).num_nbrs → set nums k f.count ≡ (neighbours_in (take nreal out) ts (k + 1)).num_nbrs
-  turn_nums g = rw (g, counts, ← next) (sym (nums_more (take nreal out) ts k h))
-
-  module _ {all : List ℕ} (g : all ≡ (neighbours_in (take nreal out) ts k).imag_nbrs) where
-    pub all_long : length all ≡ 560
-    all_long = ap length g ∙ imag_long (take nreal out) ts low k (omega arith)
-
-    pub turn_imag : {new : List ℕ} → new ≡ take (k * 40) all ++ f.nbrs ++ drop (k * 40 + 40) all → new ≡ (neighbours_in (take nreal out) ts (k + 1)).imag_nbrs
-    turn_imag m = rw (m, g, holds, ← next) (sym (imag_more (take nreal out) ts low k h))
+  pub turn_imag : {all new : List ℕ} → all ≡ (neighbours_in out ts k).imag_nbrs → new ≡ take (k * 40) all ++ a.nbrs ++ drop (k * 40 + 40) all → new ≡ (neighbours_in out ts (k + 1)).imag_nbrs
+  turn_imag g m = rw (m, g, holds, e) (sym (imag_more out ts s.low k h))

@@ -6,15 +6,16 @@ use mathlib.Core.List.{List, [], ◌∷◌}
 use native.Mathlib.Omega.{arith}
 use lib.Dec.{eqb}
 use lib.ListN.{length, set, take, replicate, get_or-replicate, length-replicate}
-use Rattle.lists.specs.Lists.{any, range, part, Each}
+use lib.Seq.{length-take-le, get_or-take}
+use Rattle.lists.specs.Lists.{any, range, part, filled, Each}
 use Rattle.lists.proofs.Parts.{part_three}
 use Rattle.lists.proofs.Filled.{filled_none}
 use Rattle.lists.proofs.Each.{each_map, each_range}
 use Rattle.layout_neighbours.specs.Neighbours.{Reach, pass, passes, neighbours_of}
 use Rattle.layout_neighbours.specs.Inner.Flat.{triples_in, Numbered}
-use Rattle.layout_neighbours.specs.Inner.Search.{Arrays, Holds, Leads, Points, Slots, found_in}
+use Rattle.layout_neighbours.specs.Inner.Search.{Arrays, Holds, Leads, Points, Slots}
 use Rattle.layout_neighbours.proofs.Among.{among_none}
-use Rattle.layout_neighbours.proofs.Holds.{slots_long, none_found, holds_point, seen_few}
+use Rattle.layout_neighbours.proofs.Holds.{none_found, holds_point, seen_few}
 use Rattle.layout_neighbours.proofs.Sound.{Low, Visited, ends, passes_done, passes_on, one_more, enough}
 
 -- ---- the points of the triplets
@@ -22,7 +23,7 @@ use Rattle.layout_neighbours.proofs.Sound.{Low, Visited, ends, passes_done, pass
 module _ {idx : List ℕ} {tris nreal : ℕ} (ps : Points idx tris nreal) where
   low_part : (t : ℕ) → t < tris → Each (λ p. p < nreal + 14) (part 3 idx t)
   low_part t h =
-      rw (part_three idx t 0 (omega (arith, ps.long, ps.few)))
+      rw (part_three idx t 0 (omega (arith, ps.long)))
       (ps.low (t * 3) (omega arith), (ps.low (t * 3 + 1) (omega arith), (ps.low (t * 3 + 2) (omega arith), tt)))
 
   pub low_triples : Low nreal (triples_in tris idx)
@@ -30,11 +31,18 @@ module _ {idx : List ℕ} {tris nreal : ℕ} (ps : Points idx tris nreal) where
   low_triples = each_map (Each (λ p. p < nreal + 14)) (part 3 idx) (range tris) (each_range (λ k. Each (λ p. p < nreal + 14) (part 3 idx k)) tris low_part)
 
 -- what `neighbours` asks, for the search
-pub points_of : {idx out : List ℕ} {tris nreal n : ℕ} → Numbered idx tris out nreal n → length idx ≡ 240 → Points idx tris nreal
-points_of h e = record { long = e; few = h.few; low = λ k g. omega (arith, h.points k g, h.imaginary) }
+module _ {idx out : List ℕ} {tris nreal n : ℕ} (h : Numbered idx tris out nreal n) where
+  pub real_long : nreal ≤ length out → length (take nreal out) ≡ nreal
+  real_long e = length-take-le nreal out e
 
-pub slots_of_lem : {idx out : List ℕ} {tris nreal n : ℕ} → Numbered idx tris out nreal n → length out ≡ 40 → Slots out nreal
-slots_of_lem h e = record { long = e; few = h.real; low = h.slots }
+  pub points_of : nreal ≤ length out → 240 ≤ length idx → Points idx tris (length (take nreal out))
+  points_of e f = record { long = omega (arith, h.few); low = λ k g. omega (arith, h.points k g, h.imaginary, real_long e) }
+
+  pub slots_of_lem : nreal ≤ length out → Slots (take nreal out)
+  slots_of_lem e = record {
+    few = omega (arith, real_long e, h.real);
+    low = λ k g. let m : k < nreal = omega (arith, real_long e) in rw (get_or-take nreal out k 0 m) (h.slots k m);
+  }
 
 -- ---- the loop
 
@@ -71,9 +79,12 @@ left_start l ts nreal p h g k = record {
 abbrev pub stops : Arrays → Arrays → Bool
 stops before after = not (eqb after.found 0) || eqb after.seen before.seen
 
-module _ {idx out : List ℕ} {tris nreal : ℕ} (ps : Points idx tris nreal) (s : Slots out nreal) where
+module _ {idx out : List ℕ} {tris : ℕ} (ps : Points idx tris (length out)) (s : Slots out) where
   abbrev l : List ℕ
-  l = take nreal out
+  l = out
+
+  abbrev nreal : ℕ
+  nreal = length out
 
   abbrev ts : List (List ℕ)
   ts = triples_in tris idx
@@ -86,18 +97,22 @@ module _ {idx out : List ℕ} {tris nreal : ℕ} (ps : Points idx tris nreal) (s
     test : ends h.state (pass l ts h.state) ≡ stops a b
     test = rw (none_found k, ← k.seen, ← h.holds.seen) refl
 
-    pub left_done : stops a b ≡ true → record { nbrs = b.nbrs; count = b.found } ≡ found_in (neighbours_of l ts p)
-    unfolding found_in
-    left_done e =
-        let n : (pass l ts h.state).nbrs ≡ neighbours_of l ts p = sym (ap (λ (x : Reach). x.nbrs) (passes_done l ts 13 h.state (test ∙ e))) ∙ h.same in
-        rw (k.slots, k.found, n) refl
+    module _ (e : stops a b ≡ true) where
+      all_found : (pass l ts h.state).nbrs ≡ neighbours_of l ts p
+      all_found = sym (ap (λ (x : Reach). x.nbrs) (passes_done l ts 13 h.state (test ∙ e))) ∙ h.same
+
+      pub left_nbrs : b.nbrs ≡ filled 40 0 (neighbours_of l ts p)
+      left_nbrs = k.slots ∙ ap (filled 40 0) all_found
+
+      pub left_found : b.found ≡ length (neighbours_of l ts p)
+      left_found = k.found ∙ ap length all_found
 
     module _ (e : stops a b ≡ false) where
       low : Low (length l) ts
-      low = rw (slots_long s) (low_triples ps)
+      low = low_triples ps
 
       visited_now : {r : Reach} {c : Arrays} → Holds nreal r c → Visited (length l) (length r.visited) r
-      visited_now m = record { imaginary = rw (slots_long s) m.imaginary; more = omega arith }
+      visited_now m = record { imaginary = m.imaginary; more = omega arith }
 
       pub left_less : (a.seen < b.seen) × (b.seen ≤ 14)
       left_less = (omega (arith, one_more l ts low h.state (visited_now h.holds) (test ∙ e), k.seen, h.holds.seen), seen_few k)

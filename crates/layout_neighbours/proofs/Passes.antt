@@ -21,4 +21,4 @@ module _ (l idx : List ℕ) (r : Reach) where
 
 -- fewer triplets
 pub points_less : {idx : List ℕ} {tris nreal : ℕ} (t : ℕ) → Points idx tris nreal → t < tris → Points idx (t + 1) nreal
-points_less t ps h = record { long = ps.long; few = omega (arith, ps.few); low = λ k g. ps.low k (omega arith) }
+points_less t ps h = record { long = omega (arith, ps.long); low = λ k g. ps.low k (omega arith) }

@@ -1,25 +1,13 @@
-use Prim.Native.Nat.{zero-le}
-use mathlib.Core.Path.{refl, sym, ◌∙◌}
-use lib.Dec.{eqb}
-use borrow.Author.Tests.{eq-eqb, ne_eqb}
-use Rattle.lists.proofs.Tests.{any_yes, any_no, any_end}
-use native.Mathlib.Omega.{arith}
+-- `layout_neighbours::contains` meets its contract: std's `contains` is the definition's `member`. Assumes nothing.
+use Rattle.std.proofs.Common.{◌≡◌, Bool, List, [], ◌∷◌, ◌||◌, refl, ap, ◌∙◌}
+use Rattle.std.specs.List.{list_any}
+use Rattle.lists.specs.Lists.{any}
 use Rattle.layout_neighbours.proofs.contains.Goals as goal
 
-pub loop-q-init : goal.loop-q-init
-loop-q-init c = (zero-le, refl)
-
-pub returns-then-nbrs-q : goal.returns-then-nbrs-q
-returns-then-nbrs-q c =
-    let g = c.args in
-    sym (c.loop-q.invariant.1 ∙ any_yes (λ x. eqb x g.slot) g.nbrs.now g.n c.loop-q.q 0 c.loop-q-test.true (omega arith) (eq-eqb _ _ c.if-nbrs-q.true))
-
-pub loop-q-preserved : goal.loop-q-preserved
-loop-q-preserved c =
-    let g = c.args in
-    (omega arith, c.loop-q.invariant.1 ∙ any_no (λ x. eqb x g.slot) g.nbrs.now g.n c.loop-q.q 0 c.loop-q-test.true (omega arith) (ne_eqb _ _ c.if-nbrs-q.false))
+any_listed : {A : Type 0} (f : A → Bool) (l : List A) → list_any f l ≡ any f l
+unfolding any
+any_listed f [] = refl
+any_listed f (a ∷ l) = ap (λ b. f a || b) (any_listed f l)
 
 pub returns : goal.returns
-returns c =
-    let g = c.args in
-    sym (c.loop-q.invariant.1 ∙ any_end (λ x. eqb x g.slot) g.nbrs.now g.n c.loop-q.q c.loop-q-test.false (omega arith))
+returns c = c.contains.ensures.value ∙ any_listed _ c.args.slots.now

@@ -1,14 +1,7 @@
 -- The loop's invariant: the arrays hold the neighbours of the first k imaginary points, laid flat. Assumes nothing.
-use Prim.Native.Nat.{◌-◌, ◌≤◌}
-use mathlib.Core.Path.{◌≡◌}
-use lib.ListN.{take}
+use Rattle.std.proofs.Common.{◌≡◌}
 use Rattle.layout_neighbours.specs.Inner.Flat.{triples_in, neighbours_in}
 use Rattle.layout_neighbours.proofs.neighbours.Given as goal
 
 abbrev pub invariant-loop-k : goal.invariant-loop-k
-invariant-loop-k l = (l.k ≤ l.n - l.nreal)
-    × (l.num_nbrs ≡ (neighbours_in (take l.nreal l.out) (triples_in l.tris l.idx) l.k).num_nbrs)
-    × (l.imag_nbrs ≡ (neighbours_in (take l.nreal l.out) (triples_in l.tris l.idx) l.k).imag_nbrs)
-
-abbrev pub decreases-loop-k : goal.decreases-loop-k
-decreases-loop-k l = l.n - l.nreal - l.k
+invariant-loop-k l = (l.num_nbrs ≡ (neighbours_in l.real (triples_in l.tris l.idx) l.k).num_nbrs) × (l.imag_nbrs ≡ (neighbours_in l.real (triples_in l.tris l.idx) l.k).imag_nbrs)

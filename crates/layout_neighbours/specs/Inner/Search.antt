@@ -1,9 +1,8 @@
 -- How the arrays of the search hold its state (document 01, "Forms of vbap.rs that need another": `visited` is an array filled with a start value). Assumes nothing.
-use Rattle.std.specs.Prelude.{ℕ, ◌+◌, ◌*◌, ◌≤◌, ◌<◌, ◌≡◌, Bool, true, false, List, length, get_or}
+use Rattle.std.specs.Prelude.{ℕ, ◌+◌, ◌*◌, ◌≤◌, ◌<◌, ◌≡◌, true, false, List, length, get_or}
 use Rattle.lists.specs.Lists.{Once, member, filled}
 use Rattle.layout_neighbours.specs.Neighbours.{Reach}
-use Rattle.layout_neighbours.specs.declared.Counts.{Counts}
-use Rattle.layout_neighbours.specs.declared.Found.{Found}
+use Rattle.layout_neighbours.specs.declared.Search.{Search}
 
 -- Origin of the bounds: 40 slots and speakers (document 01, refusal 2), 14 imaginary points (vbap.rs line 60), 54 points in all; 80 triplets (refusal 4), whose numbers are 240.
 
@@ -11,15 +10,9 @@ use Rattle.layout_neighbours.specs.declared.Found.{Found}
 abbrev pub Among : ℕ → ℕ → List ℕ → Type 0
 Among a n l = Once l × ((p : ℕ) → member p l ≡ true → (a ≤ p) × (p < a + n))
 
--- what the search's arrays and counts hold at one time: a mark for each point, the slots, and how many of each
-pub record Arrays : Type 0 where
-  pub visited : List Bool
-  pub nbrs : List ℕ
-  pub seen : ℕ
-  pub found : ℕ
-
-abbrev pub arrays_of : List Bool → List ℕ → Counts → Arrays
-arrays_of visited nbrs c = record { visited = visited; nbrs = nbrs; seen = c.seen; found = c.found }
+-- what the search's arrays and counts hold at one time, as the code has it: a mark for each point, the slots, and how many of each
+abbrev pub Arrays : Type 0
+Arrays = Search
 
 -- the arrays hold the state r of the search, whose points are imaginary and whose slots are below 40
 pub record Holds (nreal : ℕ) (r : Reach) (a : Arrays) : Type 0 where
@@ -39,18 +32,12 @@ Held nreal a = (r : Reach) × Holds nreal r a
 abbrev pub Leads : ℕ → (Reach → Reach) → Arrays → Arrays → Type 0
 Leads nreal f before after = (r : Reach) → Holds nreal r before → Holds nreal (f r) after
 
--- at most 40 real points, with slots below 40
-pub record Slots (out : List ℕ) (nreal : ℕ) : Type 0 where
-  pub long : length out ≡ 40
-  pub few : nreal ≤ 40
-  pub low : (k : ℕ) → k < nreal → get_or out k 0 < 40
+-- the slots of at most 40 real points, below 40
+pub record Slots (out : List ℕ) : Type 0 where
+  pub few : length out ≤ 40
+  pub low : (k : ℕ) → k < length out → get_or out k 0 < 40
 
--- at most 80 triplets, whose points are real or among the fourteen after those
+-- triplets whose points are real or among the fourteen after those
 pub record Points (idx : List ℕ) (tris nreal : ℕ) : Type 0 where
-  pub long : length idx ≡ 240
-  pub few : tris ≤ 80
+  pub long : tris * 3 ≤ length idx
   pub low : (k : ℕ) → k < tris * 3 → get_or idx k 0 < nreal + 14
-
--- the neighbours of one point
-unfoldable pub found_in : List ℕ → Found
-found_in l = record { nbrs = filled 40 0 l; count = length l }
