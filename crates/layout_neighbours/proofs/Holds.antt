@@ -17,6 +17,10 @@ use Rattle.layout_neighbours.specs.Inner.Search.{Among, Arrays, Holds, Slots}
 use Rattle.layout_neighbours.proofs.Among.{among_snoc, among_few}
 use Rattle.layout_neighbours.proofs.Reaches.{with_slot, with_point, reach_listed, reach_found, reach_seen, reach_late, reach_visits}
 
+-- the facts on the slots, as one
+pub slots : {out : List ℕ} → length out ≤ 40 → ((k : ℕ) → k < length out → get_or out k 0 < 40) → Slots out
+slots few low = record { few = few; low = low }
+
 -- the arrays with a slot stored, and with a point marked
 abbrev stored : Arrays → ℕ → Arrays
 stored a s = record { visited = a.visited; nbrs = set a.nbrs a.found s; seen = a.seen; found = a.found + 1 }

@@ -35,9 +35,6 @@ module _ {idx out : List ℕ} {tris nreal n : ℕ} (h : Numbered idx tris out nr
   pub real_long : nreal ≤ length out → length (take nreal out) ≡ nreal
   real_long e = length-take-le nreal out e
 
-  pub points_of : nreal ≤ length out → 240 ≤ length idx → Points idx tris (length (take nreal out))
-  points_of e f = record { long = omega (arith, h.few); low = λ k g. omega (arith, h.points k g, h.imaginary, real_long e) }
-
   pub slots_of_lem : nreal ≤ length out → Slots (take nreal out)
   slots_of_lem e = record {
     few = omega (arith, real_long e, h.real);

@@ -2,11 +2,11 @@
 // Lengths of arrays: 40 speakers (document 01, refusal 2), 14 imaginary points (vbap.rs line 60), 54 points in all; 80 triplets (refusal 4) of three point numbers are 240, 14 lists of 40 slots are 560.
 #![tactic(auto)]
 
-ghost use Rattle.std.specs.Prelude.{◌≡◌, ◌+◌, ◌-◌, ◌*◌, ◌≤◌, ◌<◌, length, take, drop, ◌++◌};
+ghost use Rattle.std.specs.Prelude.{◌≡◌, ℕ, slice_index, ◌+◌, ◌-◌, ◌*◌, ◌≤◌, ◌<◌, length, take, drop, ◌++◌};
 ghost use Rattle.lists.specs.Lists.{member, part, filled};
 ghost use Rattle.layout_neighbours.specs.Neighbours.{reach, across, pass, neighbours_of};
 ghost use Rattle.layout_neighbours.specs.Inner.Flat.{triples_in, neighbours_in, Numbered};
-ghost use Rattle.layout_neighbours.specs.Inner.Search.{Held, Leads, Points, Slots};
+ghost use Rattle.layout_neighbours.specs.Inner.Search.{Held, Leads};
 
 // How many neighbours each of the fourteen imaginary points has, and their slots: neighbour j of the k-th at k * 40 + j.
 #[derive(Clone, Copy)]
@@ -24,6 +24,18 @@ struct Search {
     found: usize,
 }
 
+// What the search goes over: the point numbers of the triplets, three each; how many triplets there are; the slots of the real points.
+#[derive(Clone, Copy)]
+struct Given<'a> {
+    idx: &'a [u8],
+    tris: usize,
+    out: &'a [u8],
+    ghost long: { tris * 3 ≤ length idx.now },
+    ghost points: { (k : ℕ) → k < tris * 3 → slice_index idx.now k < length out.now + 14 },
+    ghost few: { length out.now ≤ 40 },
+    ghost slots: { (k : ℕ) → k < length out.now → slice_index out.now k < 40 },
+}
+
 // Whether the slot is among those.
 fn contains(slots: &[u8], slot: u8) -> bool
     ensures { result ≡ member slot slots.now }
@@ -32,15 +44,15 @@ fn contains(slots: &[u8], slot: u8) -> bool
 }
 
 // A point of a triplet that holds a visited one: a real point's slot is a neighbour; an imaginary point is visited while there is no neighbour.
-fn reach(out: &[u8], p: usize, s: &mut Search)
-    requires slots { Slots out.now }
-    requires p_bound { p < length out.now + 14 }
-    requires held { Held (length out.now) s.old }
-    ensures { Leads (length out.now) (λ r. reach out.now r p) s.old s.new }
+// What is held is asked of each step: it speaks of the number of the real points, which a search does not keep.
+fn reach(g: Given, p: usize, s: &mut Search)
+    requires p_bound { p < length g.out.now + 14 }
+    requires held { Held (length g.out.now) s.old }
+    ensures { Leads (length g.entry.out.now) (λ r. reach g.entry.out.now r p) s.old s.new }
 {
     let n = s.found;
-    if p < out.len() {
-        let slot = out[p];
+    if p < g.out.len() {
+        let slot = g.out[p];
         if contains(&s.nbrs[..n], slot) {
             return;
         }
@@ -59,41 +71,36 @@ fn reach(out: &[u8], p: usize, s: &mut Search)
 }
 
 // Triplet t, where one of its points is visited.
-fn across(idx: &[u8], t: usize, out: &[u8], s: &mut Search)
-    requires points { Points idx.now (t + 1) (length out.now) }
-    requires slots { Slots out.now }
-    requires held { Held (length out.now) s.old }
-    ensures { Leads (length out.now) (λ r. across out.now r (part 3 idx.now t)) s.old s.new }
+fn across(g: Given, t: usize, s: &mut Search)
+    requires t_bound { t < g.tris }
+    requires held { Held (length g.out.now) s.old }
+    ensures { Leads (length g.entry.out.now) (λ r. across g.entry.out.now r (part 3 g.entry.idx.now t)) s.old s.new }
 {
-    let i = idx[t * 3] as usize;
-    let j = idx[t * 3 + 1] as usize;
-    let k = idx[t * 3 + 2] as usize;
+    let i = g.idx[t * 3] as usize;
+    let j = g.idx[t * 3 + 1] as usize;
+    let k = g.idx[t * 3 + 2] as usize;
     if s.visited[i] | s.visited[j] | s.visited[k] {
-        reach(out, i, s);
-        reach(out, j, s);
-        reach(out, k, s);
+        reach(g, i, s);
+        reach(g, j, s);
+        reach(g, k, s);
     }
 }
 
 // All triplets, once.
-fn pass(idx: &[u8], tris: usize, out: &[u8], s: &mut Search)
-    requires points { Points idx.now tris (length out.now) }
-    requires slots { Slots out.now }
-    requires held { Held (length out.now) s.old }
-    ensures { Leads (length out.now) (pass out.now (triples_in tris idx.now)) s.old s.new }
+fn pass(g: Given, s: &mut Search)
+    requires { Held (length g.out.now) s.old }
+    ensures { Leads (length g.entry.out.now) (pass g.entry.out.now (triples_in g.entry.tris g.entry.idx.now)) s.old s.new }
 {
-    for t in 0..tris {
-        across(idx, t, out, s);
+    for t in 0..g.tris {
+        across(g, t, s);
     }
 }
 
 // Passes until there is a neighbour or nothing more was visited: the search at its end.
-fn neighbours_of(idx: &[u8], tris: usize, out: &[u8], p: usize) -> Search
-    requires points { Points idx.now tris (length out.now) }
-    requires slots { Slots out.now }
-    requires imaginary { (length out.now ≤ p) × (p < length out.now + 14) }
-    ensures nbrs { result.nbrs ≡ filled 40 0 (neighbours_of out.now (triples_in tris idx.now) p) }
-    ensures found { result.found ≡ length (neighbours_of out.now (triples_in tris idx.now) p) }
+fn neighbours_of(g: Given, p: usize) -> Search
+    requires { (length g.out.now ≤ p) × (p < length g.out.now + 14) }
+    ensures nbrs { result.nbrs ≡ filled 40 0 (neighbours_of g.entry.out.now (triples_in g.entry.tris g.entry.idx.now) p) }
+    ensures found { result.found ≡ length (neighbours_of g.entry.out.now (triples_in g.entry.tris g.entry.idx.now) p) }
 {
     let mut s = Search {
         visited: [false; 54],
@@ -104,7 +111,7 @@ fn neighbours_of(idx: &[u8], tris: usize, out: &[u8], p: usize) -> Search
     s.visited[p] = true;
     loop {
         let seen = s.seen;
-        pass(idx, tris, out, &mut s);
+        pass(g, &mut s);
         if (s.found != 0) | (s.seen == seen) {
             return s;
         }
@@ -124,11 +131,15 @@ pub fn neighbours(idx: &[u8; 240], tris: usize, out: &[u8; 40], nreal: usize, n:
     requires { Numbered idx.now tris out.now nreal n }
     ensures { result ≡ neighbours_in (take nreal out.now) (triples_in tris idx.now) (n - nreal) }
 {
-    let real = &out[..nreal];
+    let g = Given {
+        idx: &idx[..],
+        tris,
+        out: &out[..nreal],
+    };
     let mut num_nbrs = [0u8; 14];
     let mut imag_nbrs = [0u8; 560];
     for k in 0..n - nreal {
-        let s = neighbours_of(idx, tris, real, nreal + k);
+        let s = neighbours_of(g, nreal + k);
         let nbrs = s.nbrs;
         store(&mut imag_nbrs, k, &nbrs);
         num_nbrs[k] = s.found as u8;

@@ -5,7 +5,7 @@ use Rattle.layout_neighbours.proofs.Left.{Left}
 use Rattle.layout_neighbours.proofs.neighbours_of.Given as goal
 
 abbrev pub invariant-loop-s : goal.invariant-loop-s
-invariant-loop-s l = Left l.out (triples_in l.tris l.idx) (length l.out) l.p l.s
+invariant-loop-s l = Left l.g.out.now (triples_in l.g.tris l.g.idx.now) (length l.g.out.now) l.p l.s
 
 abbrev pub decreases-loop-s : goal.decreases-loop-s
 decreases-loop-s l = 14 - l.s.seen

@@ -6,4 +6,4 @@ use Rattle.layout_neighbours.specs.Inner.Search.{Leads}
 use Rattle.layout_neighbours.proofs.pass.Given as goal
 
 abbrev pub invariant-loop-t : goal.invariant-loop-t
-invariant-loop-t l = Leads (length l.out) (pass l.out (triples_in l.t l.idx)) l.fn.s l.s
+invariant-loop-t l = Leads (length l.g.out.now) (pass l.g.out.now (triples_in l.t l.g.idx.now)) l.fn.s l.s
