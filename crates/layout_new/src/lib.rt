@@ -6,9 +6,8 @@ ghost use Rattle.std.specs.Prelude.{◌≡◌, ◌+◌, ◌*◌, ◌≤◌, leng
 ghost use Rattle.layout_planar.specs.Planar.{pairs_of};
 ghost use Rattle.vector.specs.Speakers.{slots_of};
 ghost use Rattle.layout_new.specs.Layout.{outputs_of, in_slot, speaker_at, active, new_answer, new_of};
-ghost use Rattle.layout_new.specs.Inner.Answers.{hull_built_of};
-ghost use Rattle.layout_record.specs.Shape.{planar};
-ghost use Rattle.layout_record.specs.Panner.{laid};
+ghost use Rattle.layout_new.specs.Inner.Answers.{accepted, hull_built_of};
+ghost use Rattle.layout_record.specs.Shape.{silent, mono, planar};
 
 mod active;
 
@@ -53,36 +52,69 @@ fn active_speakers(positions: &[f32], lfe: &[usize]) -> ActiveSpeakers
     found
 }
 
-// ---- the record. A ring's and a hull's is one literal each: a blank record with fields written over it would be moved about whole.
+// ---- the answer, by the record's kind. A ring's and a hull's record is one literal each: a blank record with fields written over it would be moved about whole.
+// Each kind is a function that is not inlined and that answers for `new`: a function makes room for all arrays of what is inlined into it, whichever kind it then makes, and a record that is handed on is copied.
 
-// `Kind::Planar`.
-fn planar(outputs: u8, ring: &ActiveSpeakers) -> VbapPanner
-    ensures { result ≡ laid (record { outputs = outputs; shape = planar (pairs_of ring.now) (slots_of ring.now) }) }
+#[inline(never)]
+fn silent(outputs: u8) -> Result<NewPanner, Refusal>
+    ensures { new_answer result ≡ accepted (record { outputs = outputs; shape = silent }) }
+{
+    Ok(NewPanner {
+        panner: VbapPanner {
+            num_outputs: outputs,
+            ..layout_record::no_panner()
+        },
+        imaginary: 0,
+    })
+}
+
+#[inline(never)]
+fn mono(outputs: u8, slot: u8) -> Result<NewPanner, Refusal>
+    ensures { new_answer result ≡ accepted (record { outputs = outputs; shape = mono slot }) }
+{
+    Ok(NewPanner {
+        panner: VbapPanner {
+            num_outputs: outputs,
+            kind: Kind::Mono,
+            mono: slot,
+            ..layout_record::no_panner()
+        },
+        imaginary: 0,
+    })
+}
+
+#[inline(never)]
+fn planar(outputs: u8, ring: &ActiveSpeakers) -> Result<NewPanner, Refusal>
+    ensures { new_answer result ≡ accepted (record { outputs = outputs; shape = planar (pairs_of ring.now) (slots_of ring.now) }) }
 {
     let made = layout_planar::build_planar(&ring.out, &ring.dir, ring.count);
     let pairs = made.pairs;
     let slots = ring.out;
-    VbapPanner {
-        num_outputs: outputs,
-        kind: Kind::Planar,
-        mono: 0,
-        num_pairs: made.num_pairs as u8,
-        pairs,
-        num_slots: ring.count as u8,
-        slots,
-        num_real: 0,
-        pt_out: [0; 40],
-        pt_dir: [0.0; 120],
-        num_tris: 0,
-        idx: [0; 240],
-        inv: [0.0; 720],
-        num_imag: 0,
-        num_nbrs: [0; 14],
-        imag_nbrs: [0; 560],
-    }
+    Ok(NewPanner {
+        panner: VbapPanner {
+            num_outputs: outputs,
+            kind: Kind::Planar,
+            mono: 0,
+            num_pairs: made.num_pairs as u8,
+            pairs,
+            num_slots: ring.count as u8,
+            slots,
+            num_real: 0,
+            pt_out: [0; 40],
+            pt_dir: [0.0; 120],
+            num_tris: 0,
+            idx: [0; 240],
+            inv: [0.0; 720],
+            num_imag: 0,
+            num_nbrs: [0; 14],
+            imag_nbrs: [0; 560],
+        },
+        imaginary: 0,
+    })
 }
 
-// `Kind::Hull`, `VbapPanner::build_hull`; refused where a triplet list on the way has more than 80 entries.
+// `VbapPanner::build_hull`; refused where a triplet list on the way has more than 80 entries.
+#[inline(never)]
 fn build_hull(outputs: u8, real: &ActiveSpeakers) -> Result<NewPanner, Refusal>
     ensures { new_answer result ≡ hull_built_of outputs real.now }
 {
@@ -138,33 +170,13 @@ pub fn new(positions: &[f32], lfe: &[usize]) -> Result<NewPanner, Refusal>
     let outputs = (positions.len() / 3) as u8;
     let found = active_speakers(positions, lfe);
     if found.count == 0 {
-        let panner = VbapPanner {
-            num_outputs: outputs,
-            ..layout_record::no_panner()
-        };
-        return Ok(NewPanner {
-            panner,
-            imaginary: 0,
-        });
+        return silent(outputs);
     }
     if found.count == 1 {
-        let panner = VbapPanner {
-            num_outputs: outputs,
-            kind: Kind::Mono,
-            mono: found.out[0],
-            ..layout_record::no_panner()
-        };
-        return Ok(NewPanner {
-            panner,
-            imaginary: 0,
-        });
+        return mono(outputs, found.out[0]);
     }
     if found.all_level() {
-        let panner = planar(outputs, &found);
-        return Ok(NewPanner {
-            panner,
-            imaginary: 0,
-        });
+        return planar(outputs, &found);
     }
     build_hull(outputs, &found)
 }

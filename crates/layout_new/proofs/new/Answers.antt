@@ -3,14 +3,11 @@ use Rattle.std.proofs.Common.{◌≡◌, ℕ, ◌≤◌, List, length, get_or, s
 use Rattle.lists.specs.Lists.{every}
 use Rattle.vector.specs.Speakers.{Speaker, slots_of}
 use Rattle.layout_planar.specs.Planar.{pairs_of}
-use Rattle.layout_record.specs.declared.VbapPanner.{VbapPanner}
-use Rattle.layout_record.specs.declared.Kind.TheVariants.{Mono}
-use Rattle.layout_record.specs.Shape.{mono, planar, imaginary_in}
+use Rattle.layout_record.specs.Shape.{mono, planar}
 use Rattle.layout_new.specs.Layout.{outputs_of, active, level}
 use Rattle.layout_new.specs.Inner.Answers.{accepted, refused_by, hull_built_of}
 use Rattle.layout_new.specs.Inner.Arrays.{held_in}
 use Rattle.layout_new.proofs.Answers.{new_uneven, new_many, new_silent, new_mono, new_level, new_hull}
-use Rattle.layout_new.proofs.Laid.{laid_silent, laid_mono}
 use Rattle.layout_new.proofs.Speakers.{count_is, first_slot}
 use Rattle.layout_new.proofs.new.Goals as goal
 use Rattle.layout_new.proofs.new.Goals.{Else-found-eq1}
@@ -28,18 +25,17 @@ unfolding outputs_of
 active_speakers-found-requires c = omega arith
 
 pub returns-then-found-eq0 : goal.returns-then-found-eq0
-unfolding accepted imaginary_in outputs_of
+unfolding outputs_of
 returns-then-found-eq0 c =
     let a = c.args in
     let n = outputs_of a.positions.now in
     let i = c.found.inside in
-    ap (λ (v : VbapPanner). record { number = 0; panner = record v { num_outputs = n }; imaginary = 0 }) c.no_panner.ensures
-    ∙ ap (λ (v : VbapPanner). record { number = 0; panner = v; imaginary = 0 }) (laid_silent n)
+    c.silent.ensures
     ∙ new_silent a.positions.now a.lfe.now c.if-positions-ne0.false (omega arith)
     (sym (ap length (c.found.view_is ∙ c.active_speakers-found.ensures)) ∙ count_is (held_in i.out i.dir i.count) ∙ c.if-found-eq0.true)
 
 pub returns-then-found-eq1 : goal.returns-then-found-eq1
-unfolding accepted imaginary_in outputs_of
+unfolding outputs_of
 returns-then-found-eq1 c =
     let a = c.args in
     let n = outputs_of a.positions.now in
@@ -47,8 +43,7 @@ returns-then-found-eq1 c =
     let h = held_in i.out i.dir i.count in
     let v = c.found.view_is ∙ c.active_speakers-found.ensures in
     let one : i.count ≡ 1 = c.if-found-eq1.true in
-    ap (λ (v : VbapPanner). record { number = 0; panner = record v { num_outputs = n; kind = Mono; mono = get_or i.out 0 0 }; imaginary = 0 }) c.no_panner-then-found-eq1.ensures
-    ∙ ap (λ (v : VbapPanner). record { number = 0; panner = v; imaginary = 0 }) (laid_mono n (get_or i.out 0 0))
+    c.mono.ensures
     ∙ ap (λ (m : ℕ). accepted (record { outputs = n; shape = mono m })) (first_slot h c.found.invariant (omega arith) ∙ ap (λ (l : List Speaker). get_or (slots_of l) 0 0) v)
     ∙ new_mono a.positions.now a.lfe.now c.if-positions-ne0.false (omega arith) (sym (ap length v) ∙ count_is h ∙ one)
 
@@ -59,12 +54,12 @@ two c =
     omega (arith, count_is (held_in i.out i.dir i.count), ap length (c.found.view_is ∙ c.active_speakers-found.ensures), c.if-found-eq0.false, c.if-found-eq1.false)
 
 pub returns-then-all_level : goal.returns-then-all_level
-unfolding accepted imaginary_in outputs_of
+unfolding outputs_of
 returns-then-all_level c =
     let a = c.args in
     let n = outputs_of a.positions.now in
     let e = c.active_speakers-found.ensures in
-    ap (λ (v : VbapPanner). record { number = 0; panner = v; imaginary = 0 }) c.planar-panner.ensures
+    c.planar.ensures
     ∙ ap (λ (l : List Speaker). accepted (record { outputs = n; shape = planar (pairs_of l) (slots_of l) })) e
     ∙ new_level a.positions.now a.lfe.now c.if-positions-ne0.false (omega arith) (two (goal.at.returns-then-all_level c).Else-found-eq1)
     (ap (every level) (sym e) ∙ sym c.all_level.ensures ∙ c.if-all_level.true)
