@@ -1,5 +1,4 @@
 pub mod Places
-pub mod Passed
 pub mod Tops
 pub mod Found
 pub mod Meaning
