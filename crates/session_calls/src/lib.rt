@@ -38,8 +38,7 @@ fn counts_over(counts: &Counts) -> bool
 pub fn malformed_session(s: &Session) -> bool
     ensures { result ≡ malformed_session s.now }
 {
-    let panner = s.panner;
-    layout_record::malformed(panner)
+    layout_record::malformed(&s.panner)
         | (s.sources < 1)
         | (SOURCES < s.sources as usize)
         | counts_over(&s.counts)
