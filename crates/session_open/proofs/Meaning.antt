@@ -19,9 +19,8 @@ use Rattle.session_history.specs.Calls.{place, take_back, settle, render}
 use Rattle.session_history.specs.History.{depth}
 use Rattle.session_calls.specs.Session.{malformed_by, malformed_session, number_of}
 use Rattle.session_calls.proofs.Refusals.{formed_is, malformed_source}
-use Rattle.session_open.specs.Open.{fresh, open_refusal, no_session, open_of}
+use Rattle.session_open.specs.Open.{fresh, open_refusal, no_session, OpenAnswer, open_of}
 use Rattle.session_open.specs.Meaning.{NoSessionRefused, OpenedFormed}
-use Rattle.session_open.specs.declared.Opened.{Opened}
 use Rattle.session_open.proofs.Opening.{new_number, open_number, few_sources, new_number_lem}
 
 -- ---- the session beside a refused open
@@ -43,7 +42,7 @@ no_session_refused (render L samples outputs) = rw no_session_malformed
 
 -- ---- an opened session
 
-opened_number : (b : Bool) (x y : Opened) (why : ℕ) → eqb why 0 ≡ b → y.number ≡ why → (cond b x y).number ≡ 0 → why ≡ 0
+opened_number : (b : Bool) (x y : OpenAnswer) (why : ℕ) → eqb why 0 ≡ b → y.number ≡ why → (cond b x y).number ≡ 0 → why ≡ 0
 opened_number true x y why e p q = eqb-true why 0 e
 opened_number false x y why e p q = sym p ∙ q
 

@@ -1,7 +1,7 @@
 -- The answer of open, case by case, from the answer of `layout_new::new`: 1 and 2 are its own, then 3, then 4. Assumes nothing.
 use Prim.Native.Nat.{ℕ, ◌%◌, ◌≤◌}
 use mathlib.Core.Path.{◌≡◌, refl, sym, ap, ◌∙◌}
-use mathlib.Core.Bool.{Bool, true, false, ◌||◌, not, cond, false≢true, true≢false}
+use mathlib.Core.Bool.{Bool, true, false, ◌&&◌, ◌||◌, not, cond, false≢true, true≢false}
 use mathlib.Core.List.{List}
 use native.Mathlib.Omega.{arith}
 use borrow.Author.Tests.{ltb-false, eqb-true, eq-eqb, ne_eqb}
@@ -9,14 +9,17 @@ use lib.Dec.{eqb, ltb}
 use lib.Ieee.{Float}
 use lib.ListN.{length}
 use Rattle.layout_record.specs.Shape.{imaginary_in}
-use Rattle.lists.proofs.Tests.{neither}
+use Rattle.lists.proofs.Tests.{neither, both}
+use Rattle.std.proofs.Common.{Result, Ok, Err}
+use Rattle.refusals.specs.declared.Refusal.{Refusal}
+use Rattle.refusals.specs.Refusals.{number_of as refusal_number, number_in}
+use Rattle.session_calls.proofs.Refusals.{refused}
 use Rattle.layout_new.specs.declared.NewPanner.{NewPanner}
-use Rattle.layout_new.specs.Layout.{outputs_of, active, layout_of, too_many_triplets, new_refusal, panner_of, new_of}
+use Rattle.layout_new.specs.Layout.{NewAnswer, new_answer, outputs_of, active, layout_of, too_many_triplets, new_refusal, panner_of, new_of}
 use Rattle.layout_new.specs.Inner.Answers.{accepted}
 use Rattle.layout_new.proofs.Answers.{accepted_is}
 use Rattle.mix_block.specs.Limits.{most_sources}
-use Rattle.session_open.specs.Open.{fresh, open_refusal, refused_by, open_of}
-use Rattle.session_open.specs.declared.Opened.{Opened}
+use Rattle.session_open.specs.Open.{fresh, open_refusal, early, OpenAnswer, refused_by, open_of}
 
 -- ---- the numbers
 
@@ -25,10 +28,6 @@ new_number a b c = cond (not a) 1 (cond b 2 (cond c 4 0))
 
 abbrev pub open_number : Bool → Bool → Bool → Bool → ℕ
 open_number a b c d = cond (not a) 1 (cond b 2 (cond d 3 (cond c 4 0)))
-
--- whether a number is 1 or 2
-abbrev pub early : ℕ → Bool
-early n = eqb n 1 || eqb n 2
 
 number_early : (a b c d : Bool) → early (new_number a b c) ≡ true → open_number a b c d ≡ new_number a b c
 number_early false b c d e = refl
@@ -51,7 +50,7 @@ few_sources n e =
     let p = neither (ltb n 1) (ltb most_sources n) e in
     (ltb-false n 1 p.0, ltb-false most_sources n p.1)
 
-number_of : (b : Bool) (x y : NewPanner) (why : ℕ) → eqb why 0 ≡ b → x.number ≡ 0 → y.number ≡ why → (cond b x y).number ≡ why
+number_of : (b : Bool) (x y : NewAnswer) (why : ℕ) → eqb why 0 ≡ b → x.number ≡ 0 → y.number ≡ why → (cond b x y).number ≡ why
 number_of true x y why e p q = p ∙ sym (eqb-true why 0 e)
 number_of false x y why e p q = q
 
@@ -77,14 +76,14 @@ module _ (positions : List Float) (lfe : List ℕ) where
     open_refused n e h = rw (e, ne_eqb n 0 h)
 
     open_accepted : open_refusal positions lfe sources ≡ 0
-        → ◌≡◌ {A = Opened} (record { number = 0; imaginary = imaginary_in (layout_of positions lfe).shape; session = fresh (panner_of positions lfe) sources })
+        → ◌≡◌ {A = OpenAnswer} (record { number = 0; imaginary = imaginary_in (layout_of positions lfe).shape; session = fresh (panner_of positions lfe) sources })
         (open_of positions lfe sources)
     unfolding open_of
     open_accepted e = rw (eq-eqb (open_refusal positions lfe sources) 0 e)
 
-    module _ {made : NewPanner} (is : made ≡ new_of positions lfe) where
+    module _ {made : NewAnswer} (is : made ≡ new_of positions lfe) where
       number_is : made.number ≡ new_refusal positions lfe
-      number_is = ap (λ (x : NewPanner). x.number) is ∙ new_number_lem
+      number_is = ap (λ (x : NewAnswer). x.number) is ∙ new_number_lem
 
       module _ (late : early made.number ≡ false) where
         number_is_late : ltb sources 1 || ltb most_sources sources ≡ false → open_refusal positions lfe sources ≡ made.number
@@ -101,11 +100,11 @@ module _ (positions : List Float) (lfe : List ℕ) where
         open_late d h = open_refused made.number (number_is_late d) h
 
         pub open_done : ltb sources 1 || ltb most_sources sources ≡ false → made.number ≡ 0
-            → ◌≡◌ {A = Opened} (record { number = 0; imaginary = made.imaginary; session = fresh made.panner sources }) (open_of positions lfe sources)
+            → ◌≡◌ {A = OpenAnswer} (record { number = 0; imaginary = made.imaginary; session = fresh made.panner sources }) (open_of positions lfe sources)
         unfolding accepted panner_of
         open_done d z =
-            ap (λ (x : NewPanner). record { number = 0; imaginary = x.imaginary; session = fresh x.panner sources })
-            (is ∙ accepted_is positions lfe (ap (λ (x : NewPanner). x.number) (sym is) ∙ z))
+            ap (λ (x : NewAnswer). record { number = 0; imaginary = x.imaginary; session = fresh x.panner sources })
+            (is ∙ accepted_is positions lfe (ap (λ (x : NewAnswer). x.number) (sym is) ∙ z))
             ∙ open_accepted (number_is_late d ∙ z)
 
       pub open_early : early made.number ≡ true → refused_by made.number ≡ open_of positions lfe sources
@@ -114,3 +113,46 @@ module _ (positions : List Float) (lfe : List ℕ) where
           open_refused made.number
           (number_early even many tris (ltb sources 1 || ltb most_sources sources) (ap early (sym number_is) ∙ e) ∙ sym number_is)
           (λ z. false≢true (sym (ap early z) ∙ e))
+
+-- ---- the answer, by what the layout answers
+
+number_same : (r : Result NewPanner Refusal) → number_in r ≡ (new_answer r).number
+number_same (Ok made) = refl
+number_same (Err why) = refl
+
+not_true : (b : Bool) → not b ≡ true → b ≡ false
+not_true false e = refl
+not_true true e = absurd (false≢true e)
+
+abbrev pub uncounted : ℕ → Bool
+uncounted n = ltb n 1 || ltb most_sources n
+
+module _ (positions : List Float) (lfe : List ℕ) (sources : ℕ) (r : Result NewPanner Refusal) (is : new_answer r ≡ new_of positions lfe) {first : Bool} (f : first ≡ early (number_in r)) where
+  early_is : first ≡ early (new_answer r).number
+  early_is = f ∙ ap early (number_same r)
+
+  pub opened_uncounted : not first && uncounted sources ≡ true → refused_by 3 ≡ open_of positions lfe sources
+  opened_uncounted e =
+      let p = both (not first) (uncounted sources) e in
+      open_sources positions lfe sources is (sym early_is ∙ not_true first p.0) p.1
+
+  pub opened_refused : {why : Refusal} → r ≡ Err why → not first && uncounted sources ≡ false → refused_by (refusal_number why) ≡ open_of positions lfe sources
+  opened_refused {why} w e = ap (λ (x : Result NewPanner Refusal). refused_by (new_answer x).number) (sym w) ∙ by first refl
+    where
+      some : (new_answer r).number ≡ 0 → ⊥
+      some z = refused why (sym (ap (λ (x : Result NewPanner Refusal). (new_answer x).number) w) ∙ z)
+
+      by : (b : Bool) → first ≡ b → refused_by (new_answer r).number ≡ open_of positions lfe sources
+      by true t = open_early positions lfe sources is (sym early_is ∙ t)
+      by false t =
+          let d : uncounted sources ≡ false = ap (λ (b : Bool). not b && uncounted sources) (sym t) ∙ e in
+          open_late positions lfe sources is (sym early_is ∙ t) d some
+
+  pub opened_done : {made : NewPanner} → r ≡ Ok made → not first && uncounted sources ≡ false
+      → ◌≡◌ {A = OpenAnswer} (record { number = 0; imaginary = made.imaginary; session = fresh made.panner sources }) (open_of positions lfe sources)
+  opened_done {made} w e =
+      let n : new_answer r ≡ new_answer (Ok made) = ap new_answer w in
+      let t : early (new_answer r).number ≡ false = ap (λ (x : NewAnswer). early x.number) n in
+      let d : uncounted sources ≡ false = ap (λ (b : Bool). not b && uncounted sources) (sym (early_is ∙ t)) ∙ e in
+      ap (λ (x : NewAnswer). record { number = 0; imaginary = x.imaginary; session = fresh x.panner sources }) (sym n)
+      ∙ open_done positions lfe sources is t d (ap (λ (x : NewAnswer). x.number) n)

@@ -1,5 +1,7 @@
 -- Document 01, "Returned numbers" 1 to 4 and "Session" ("Fresh: empty lists, start rows of +0"): open. Assumes nothing.
-use Rattle.std.specs.Prelude.{ℕ, ◌*◌, ◌%◌, ◌||◌, not, cond, List, eqb, ltb, length, replicate, Float}
+use Rattle.std.specs.Prelude.{ℕ, ◌*◌, ◌%◌, Bool, ◌||◌, not, cond, List, eqb, ltb, length, replicate, Float, Result, Ok, Err}
+use Rattle.refusals.specs.declared.Refusal.{Refusal}
+use Rattle.refusals.specs.Refusals.{number_of}
 use Rattle.float_order.specs.Values.{+0}
 use Rattle.layout_record.specs.declared.VbapPanner.{VbapPanner}
 use Rattle.layout_record.specs.Shape.{imaginary_in}
@@ -29,15 +31,30 @@ open_refusal positions lfe sources =
     (cond (ltb sources 1 || ltb most_sources sources) 3
     (cond (too_many_triplets (active positions lfe)) 4 0)))
 
+-- whether a number is one of the layout's below 3
+abbrev pub early : ℕ → Bool
+early n = eqb n 1 || eqb n 2
+
+-- the number of open, how many imaginary points were made, and the session
+pub record OpenAnswer : Type 0 where
+  pub number : ℕ
+  pub imaginary : ℕ
+  pub session : Session
+
 -- a refused open returns no session: what the answer then holds is all 0, +0 and the crossfade, which every call refuses with 11
 unfoldable pub no_session : Session
 no_session = fresh no_panner 0
 
 -- open, refused by a number
-unfoldable pub refused_by : ℕ → Opened
+unfoldable pub refused_by : ℕ → OpenAnswer
 refused_by why = record { number = why; imaginary = 0; session = no_session }
 
-unfoldable pub open_of : List Float → List ℕ → ℕ → Opened
+-- what open answers: 0 and what was opened, or a refusal's number beside no session
+abbrev pub open_answer : Result Opened Refusal → OpenAnswer
+open_answer (Ok made) = record { number = 0; imaginary = made.imaginary; session = made.session }
+open_answer (Err why) = refused_by (number_of why)
+
+unfoldable pub open_of : List Float → List ℕ → ℕ → OpenAnswer
 open_of positions lfe sources =
     let why = open_refusal positions lfe sources in
     cond (eqb why 0)

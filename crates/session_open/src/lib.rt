@@ -2,17 +2,19 @@
 #![tactic(auto)]
 
 ghost use Rattle.std.specs.Prelude.{◌≡◌};
-ghost use Rattle.session_open.specs.Open.{fresh, refused_by, open_of};
+ghost use Rattle.refusals.specs.Refusals.{number_in};
+ghost use Rattle.session_open.specs.Open.{fresh, early, open_answer, open_of};
 
+use layout_new::NewPanner;
 use layout_record::VbapPanner;
 use mix_block::{GAINS, SOURCES};
+use refusals::Refusal;
 use session_calls::Session;
 use session_standing::PLACES;
 
-// What `open` answers: 0 or the refusal's number, how many imaginary points were made, and the session.
+// How many imaginary points were made, and the session.
 #[derive(Clone, Copy)]
 pub struct Opened {
-    pub number: u32,
     pub imaginary: usize,
     pub session: Session,
 }
@@ -30,36 +32,29 @@ fn fresh(panner: VbapPanner, sources: u8) -> Session
     }
 }
 
-// The answer beside a refusal.
-fn refused(why: u32) -> Opened
-    ensures { result ≡ refused_by why }
+// Whether the layout is refused with a number below that of the sources.
+fn refused_first(made: &Result<NewPanner, Refusal>) -> bool
+    ensures { result ≡ early (number_in made.now) }
 {
-    Opened {
-        number: why,
-        imaginary: 0,
-        session: fresh(layout_record::no_panner(), 0),
-    }
+    matches!(
+        made,
+        Err(Refusal::NotTriples) | Err(Refusal::TooManyPositions)
+    )
 }
 
-// A fresh session over the layout of the positions. Origin of 3 and of at least 1 source: document 01, refusal 3; 1, 2 and 4 are the layout's.
-pub fn open(positions: &[f32], lfe: &[usize], sources: usize) -> Opened
-    ensures { result ≡ open_of positions.now lfe.now sources }
+// A fresh session over the layout of the positions. Origin of at least 1 source: document 01, refusal 3; 1, 2 and 4 are the layout's.
+pub fn open(positions: &[f32], lfe: &[usize], sources: usize) -> Result<Opened, Refusal>
+    ensures { open_answer result ≡ open_of positions.now lfe.now sources }
 {
     let made = layout_new::new(positions, lfe);
-    let why = made.number;
-    if (why == 1) | (why == 2) {
-        return refused(why);
+    let first = refused_first(&made);
+    let uncounted = (sources < 1) | (SOURCES < sources);
+    if !first & uncounted {
+        return Err(Refusal::NoSuchCount);
     }
-    if (sources < 1) | (SOURCES < sources) {
-        return refused(3);
-    }
-    if why != 0 {
-        return refused(why);
-    }
-    let panner = made.panner;
-    Opened {
-        number: 0,
+    let made = made?;
+    Ok(Opened {
         imaginary: made.imaginary,
-        session: fresh(panner, sources as u8),
-    }
+        session: fresh(made.panner, sources as u8),
+    })
 }

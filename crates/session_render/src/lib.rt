@@ -61,7 +61,8 @@ fn target(panner: VbapPanner, n: Count, az: f32, el: f32, row: &mut [f32])
         row_places::zero(row);
         return;
     }
-    row_gains::gains(panner, az, el, row);
+    // of a record that is not malformed no row is refused
+    let _ = row_gains::gains(panner, az, el, row);
 }
 
 // The start rows after a render: for each source its target, the places from outputs on unchanged.

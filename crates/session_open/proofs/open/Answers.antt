@@ -1,26 +1,19 @@
 -- `session_open::open` meets its contract: 1 and 2 of the layout first, then 3, then 4. Assumes nothing.
 use mathlib.Core.Path.{ap, ◌∙◌}
-use native.Mathlib.Omega.{arith}
+use Rattle.std.proofs.lemmas.Result.{err_from_is_err_and}
 use Rattle.session_calls.specs.declared.Session.{Session}
-use Rattle.session_open.proofs.Opening.{few_sources, open_early, open_sources, open_late, open_done}
+use Rattle.session_open.proofs.Opening.{opened_uncounted, opened_refused, opened_done}
 use Rattle.session_open.proofs.open.Goals as goal
 
-pub returns-then-why : goal.returns-then-why
-returns-then-why c = c.refused.ensures ∙ open_early _ _ _ c.new-made.ensures c.if-why.true
+pub returns-then-first-uncounted : goal.returns-then-first-uncounted
+returns-then-first-uncounted c = opened_uncounted _ _ _ _ c.new-made.ensures c.refused_first-first.ensures c.if-first-uncounted.true
 
-pub returns-then-sources : goal.returns-then-sources
-returns-then-sources c = c.refused-then-sources.ensures ∙ open_sources _ _ _ c.new-made.ensures c.if-why.false c.if-sources.true
-
-pub returns-then-why-ne0 : goal.returns-then-why-ne0
-returns-then-why-ne0 c =
-    c.refused-then-why-ne0.ensures
-    ∙ open_late _ _ _ c.new-made.ensures c.if-why.false c.if-sources.false c.if-why-ne0.true
-
-pub overflow_cast-sources : goal.overflow_cast-sources
-overflow_cast-sources c =
-    omega (arith, few_sources c.args.sources c.if-sources.false)
+pub returns-in_err-made : goal.returns-in_err-made
+returns-in_err-made c =
+    let p = err_from_is_err_and c.from_residual.result c.from_residual.ensures.1 in
+    rw (p.1, p.2) (opened_refused _ _ _ _ c.new-made.ensures c.refused_first-first.ensures c.in_err-made.was c.if-first-uncounted.false)
 
 pub returns : goal.returns
 returns c =
-    ap (λ (s : Session). record { number = 0; imaginary = c.new-made.result.imaginary; session = s }) c.fresh.ensures
-    ∙ open_done _ _ _ c.new-made.ensures c.if-why.false c.if-sources.false c.if-why-ne0.false
+    ap (λ (s : Session). record { number = 0; imaginary = c.in_ok-made.made.imaginary; session = s }) c.fresh.ensures
+    ∙ opened_done _ _ _ _ c.new-made.ensures c.refused_first-first.ensures c.in_ok-made.was c.if-first-uncounted.false
