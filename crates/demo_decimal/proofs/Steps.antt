@@ -2,7 +2,7 @@
 use mathlib.Core.Path.{◌≡◌, sym, ap, ◌∙◌}
 use mathlib.Core.Bool.{Bool, cond}
 use Prim.Native.Nat.{ℕ, ◌+◌, ◌*◌, ◌/◌, ◌%◌, ◌^◌, ◌≤◌, ◌<◌}
-use native.Mathlib.Nat.{le_of_eq, lt_of_le_of_lt, lt_of_lt_of_le, le_trans, mul_assoc, mul_right_comm, mul-le-mul, mul-le-mul_right, mul-lt-mul_of_pos_right, lt_of_mul-lt-mul_right, le_of_mul-le-mul_right}
+use native.Mathlib.Nat.{le_of_eq, lt_of_le_of_lt, lt_of_lt_of_le, le_trans, mul_assoc, mul_right_comm, mul-le-mul_right, mul-lt-mul_of_pos_right, lt_of_mul-lt-mul_right, le_of_mul-le-mul_right}
 use native.Mathlib.Omega.{arith}
 use borrow.Author.Tests.{lt-ltb, le-ltb}
 use lib.Pow.{pow-add, pow_pos}
@@ -61,9 +61,3 @@ shifted q P j k = closest_same (q * P) (2 ^ k) (q * 2 ^ j * P) (2 ^ (j + k)) (po
     same =
         ap (λ (n : ℕ). q * P * n) (pow-add 2 j k) ∙ sym (mul_assoc (q * P) (2 ^ j) (2 ^ k))
         ∙ ap (λ (n : ℕ). n * 2 ^ k) (mul_right_comm q P (2 ^ j))
-
-pub product_fits : (q P : ℕ) → q < 2 ^ 24 → P ≤ 1000000 → q * P < 2 ^ 44
-product_fits q P h l =
-    let f : q ≤ 16777216 = omega arith in
-    let m : q * P ≤ 16777216 * 1000000 = mul-le-mul f l in
-    omega arith
