@@ -1,5 +1,6 @@
 // The dome of the rehearsal: rings of 12, 8 and 3 at elevations 0°, 30° and 60°, one speaker at the zenith, and an LFE.
 use layout_new::NewPanner;
+use refusals::Refusal;
 use session_open::Opened;
 
 // Right, up and back, in units of the dome's radius.
@@ -40,44 +41,20 @@ const SPEAKERS: [[f32; 3]; 25] = [
 // The slot that no panned signal reaches. Origin: the last of SPEAKERS.
 const LFE: [usize; 1] = [24];
 
-// Three numbers a speaker.
-fn positions() -> [f32; 75] {
-    let speakers = SPEAKERS;
-    let mut r = [0.0f32; 75];
-    let mut i: usize = 0;
-    while i < 25 {
-        let p = speakers[i];
-        let k = i * 3;
-        r[k] = p[0];
-        r[k + 1] = p[1];
-        r[k + 2] = p[2];
-        i += 1;
-    }
-    r
+pub fn new() -> Result<NewPanner, Refusal> {
+    layout_new::new(SPEAKERS.as_flattened(), &LFE)
 }
 
-pub fn new() -> NewPanner {
-    let numbers = positions();
-    let lfe = LFE;
-    layout_new::new(&numbers, &lfe)
-}
-
-pub fn open(sources: usize) -> Opened {
-    let numbers = positions();
-    let lfe = LFE;
-    session_open::open(&numbers, &lfe, sources)
+pub fn open(sources: usize) -> Result<Opened, Refusal> {
+    session_open::open(SPEAKERS.as_flattened(), &LFE, sources)
 }
 
 // 74 numbers: not a multiple of 3.
-pub fn open_74() -> Opened {
-    let numbers = [0.0f32; 74];
-    let lfe = LFE;
-    session_open::open(&numbers, &lfe, 2)
+pub fn open_74() -> Result<Opened, Refusal> {
+    session_open::open(&[0.0; 74], &LFE, 2)
 }
 
 // 41 positions.
-pub fn open_41() -> Opened {
-    let numbers = [0.0f32; 123];
-    let lfe = LFE;
-    session_open::open(&numbers, &lfe, 2)
+pub fn open_41() -> Result<Opened, Refusal> {
+    session_open::open(&[0.0; 123], &LFE, 2)
 }

@@ -3,62 +3,34 @@
 
 mod angles;
 mod calls;
-mod columns;
+mod decimals;
 mod dome;
 mod report;
 mod rows;
 mod scene;
 mod words;
 
-use columns::{end, line};
+use std::io;
 
-fn about(rt: &impl Print) {
-    line(
-        rt,
-        b"A dome of 24 loudspeakers with an LFE, panned by the proved code.",
-    );
-    line(
-        rt,
-        b"Azimuth 0 is the front, 90 the right; elevation 90 is the zenith.",
-    );
-    line(
-        rt,
-        b"Angles are shown in degrees and, as the calls take them, in radians.",
-    );
-    line(
-        rt,
-        b"Degrees have 2 digits after the point; radians, gains and samples have 6.",
-    );
-    line(
-        rt,
-        b"Each is rounded once, to the nearest, a tie to the even one.",
-    );
-    line(
-        rt,
-        b"A gain shown as 0.000000 is not 0, but at most half a millionth.",
-    );
-    end(rt);
+fn tell(rt: &impl Print) -> io::Result<()> {
+    println!(rt; "A dome of 24 loudspeakers with an LFE, panned by the proved code.")?;
+    println!(rt; "Azimuth 0 is the front, 90 the right; elevation 90 is the zenith.")?;
+    println!(rt; "Angles are shown in degrees and, as the calls take them, in radians.")?;
+    println!(rt; "Degrees have 2 digits after the point; radians, gains and samples have 6.")?;
+    println!(rt; "Each is rounded once, to the nearest, a tie to the even one.")?;
+    println!(rt; "A gain shown as 0.000000 is not 0, but at most half a millionth.\n")?;
+    println!(rt; "1. The layout\n")?;
+    let made = dome::new();
+    report::layout(rt, &made)?;
+    println!(rt; "\n2. Rows: the gains that are not 0, and the sum of their squares\n")?;
+    if let Ok(made) = &made {
+        rows::table(rt, &made.panner)?;
+    }
+    println!(rt; "\n3. A rehearsal of two sources: the first plays 1 throughout, the second 0.5\n")?;
+    scene::rehearse(rt)
 }
 
+// A write that fails ends the text, and the status stays 0.
 fn main(rt: HostRuntime) {
-    about(&rt);
-    let made = dome::new();
-    let panner = made.panner;
-    line(&rt, b"1. The layout");
-    end(&rt);
-    report::layout(&rt, made);
-    end(&rt);
-    line(
-        &rt,
-        b"2. Rows: the gains that are not 0, and the sum of their squares",
-    );
-    end(&rt);
-    rows::table(&rt, panner);
-    end(&rt);
-    line(
-        &rt,
-        b"3. A rehearsal of two sources: the first plays 1 throughout, the second 0.5",
-    );
-    end(&rt);
-    scene::rehearse(&rt);
+    let _ = tell(&rt);
 }
