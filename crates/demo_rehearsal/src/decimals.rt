@@ -23,7 +23,7 @@ impl fmt::Display for Decimal {
                 let whole = n / one;
                 let part = n % one;
                 let text = InlineText::<LONGEST>::of(format_args!("{whole}.{part:0places$}"));
-                f.pad_integral(!float_order::sign_bit32(x), "", text.as_str())
+                f.pad_integral(!float_order::sign_bit(x), "", text.as_str())
             }
             Size::Large => f.pad_integral(true, "", "large"),
             Size::Nan => f.pad_integral(true, "", "nan"),

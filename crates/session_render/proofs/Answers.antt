@@ -9,9 +9,8 @@ use Rattle.lists.specs.Lists.{range}
 use Rattle.mix_block.specs.Limits.{most_sources}
 use Rattle.session_history.specs.Calls.{render}
 use Rattle.session_calls.specs.Session.{with_starts, new_start, rendered, accepted, number_of, mixed_outputs, rendered_buffer}
-use Rattle.session_calls.specs.Answers.{answer_of}
+use Rattle.session_calls.specs.Answers.{Answer, answer_of}
 use Rattle.session_calls.specs.declared.Session.{Session}
-use Rattle.session_calls.specs.declared.Answer.{Answer}
 use Rattle.session_calls.proofs.Answers.{accepted_as, with_starts_as}
 
 module _ (s : Session) (L : ℕ) (samples outputs : List Float) where

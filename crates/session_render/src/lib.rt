@@ -1,61 +1,52 @@
 // Render: document 01, "Session" ("Render: ..") and refusals 8 to 11.
 #![tactic(auto)]
 
-ghost use Rattle.std.specs.Prelude.{◌≡◌, false, ℕ, ◌+◌, ◌-◌, ◌*◌, ◌<◌, length, get_or};
+ghost use Rattle.std.specs.Prelude.{◌≡◌, false, ℕ, ◌+◌, ◌*◌, ◌<◌, length, get_or};
 ghost use mathlib.Core.List.{flat_map};
 ghost use Rattle.std.specs.Float.{nan};
+ghost use Rattle.refusals.specs.Refusals.{number_in};
 ghost use Rattle.lists.specs.Lists.{range};
 ghost use Rattle.layout_record.specs.Malformed.{malformed_of};
 ghost use Rattle.mix_block.specs.Limits.{most_sources, row_places};
 ghost use Rattle.session_history.specs.Calls.{render};
 ghost use Rattle.session_calls.specs.Session.{malformed_session, number_of, target_row, target, new_start, rendered_buffer};
-ghost use Rattle.session_calls.specs.Answers.{answer_of};
+ghost use Rattle.session_calls.specs.Answers.{answer_of, answered};
 
 use layout_record::VbapPanner;
 use mix_block::{ROW, Starts};
-use session_calls::{Answer, Session};
+use refusals::Refusal;
+use session_calls::Session;
 use session_standing::{Count, WIDTH};
 
 // The longest block, in samples. Origin: document 01, refusal 8.
 const LONGEST_BLOCK: usize = 1024;
 
-// The number of a render: 11, 8, 9 or 10, and 0 where none applies.
-fn refusal(s: Session, block: usize, samples: &[f32], outputs: &[f32]) -> u32
-    ensures { result ≡ number_of s (render block samples.now outputs.now) }
+// What refuses a render.
+fn refusal(s: &Session, block: usize, samples: &[f32], outputs: &[f32]) -> Result<(), Refusal>
+    ensures { number_in result ≡ number_of s.now (render block samples.now outputs.now) }
 {
-    let malformed = session_calls::malformed_session(s);
-    if malformed {
-        return 11;
+    if session_calls::malformed_session(s) {
+        return Err(Refusal::Malformed);
     }
     if block == 0 {
-        return 8;
+        return Err(Refusal::BlockLength);
     }
-    if LONGEST_BLOCK < block {
-        return 8;
+    if block > LONGEST_BLOCK {
+        return Err(Refusal::BlockLength);
     }
     if samples.len() != (s.sources as usize) * block {
-        return 9;
+        return Err(Refusal::SampleLength);
     }
     if outputs.len() != (s.panner.num_outputs as usize) * block {
-        return 10;
+        return Err(Refusal::OutputLength);
     }
-    0
-}
-
-// The number of the last of n directions, 0 where none stands.
-fn last_of(n: Count) -> usize
-    ensures { result ≡ n - 1 }
-{
-    if n == 0 {
-        return 0;
-    }
-    (n - 1) as usize
+    Ok(())
 }
 
 // The row of a source of which n directions stand, by the last of them: +0 throughout where none stands.
-fn target(panner: VbapPanner, n: Count, az: f32, el: f32, row: &mut [f32])
-    requires { (malformed_of panner ≡ false) × (length row.old ≡ panner.num_outputs) }
-    ensures { row.new ≡ target_row panner n az el }
+fn target(panner: &VbapPanner, n: Count, az: f32, el: f32, row: &mut [f32])
+    requires { (malformed_of panner.now ≡ false) × (length row.old ≡ panner.now.num_outputs) }
+    ensures { row.new ≡ target_row panner.now n az el }
 {
     if n == 0 {
         row_places::zero(row);
@@ -66,63 +57,51 @@ fn target(panner: VbapPanner, n: Count, az: f32, el: f32, row: &mut [f32])
 }
 
 // The start rows after a render: for each source its target, the places from outputs on unchanged.
-fn new_starts(s: Session, starts: Starts) -> Starts
-    requires { (malformed_session s ≡ false) × (starts ≡ s.starts) }
-    ensures made { result ≡ flat_map (new_start s) (range most_sources) }
-    ensures gains { (i o : ℕ) → i < s.sources → o < s.panner.num_outputs → get_or result (i * row_places + o) nan ≡ get_or (target s i) o nan }
+fn new_starts(s: &Session) -> Starts
+    requires { malformed_session s.now ≡ false }
+    ensures made { result ≡ flat_map (new_start s.now) (range most_sources) }
+    ensures gains { (i o : ℕ) → i < s.now.sources → o < s.now.panner.num_outputs → get_or result (i * row_places + o) nan ≡ get_or (target s.now i) o nan }
 {
-    let panner = s.panner;
-    let counts = s.counts;
-    let standing = s.standing;
-    let sources = s.sources as usize;
-    let outputs = panner.num_outputs as usize;
-    let mut next = starts;
-    let mut i: usize = 0;
-    while i < sources {
-        let n = counts[i];
-        let last = i * WIDTH + last_of(n) * 2;
+    let outputs = s.panner.num_outputs as usize;
+    let mut next = s.starts;
+    for i in 0..s.sources as usize {
+        let n = s.counts[i];
+        // the last of n directions, and the first place where none stands
+        let last = i * WIDTH + (n.saturating_sub(1) as usize) * 2;
         let a = i * ROW;
-        let e = a + outputs;
         target(
-            panner,
+            &s.panner,
             n,
-            standing[last],
-            standing[last + 1],
-            &mut next[a..e],
+            s.standing[last],
+            s.standing[last + 1],
+            &mut next[a..a + outputs],
         );
-        i += 1;
     }
     next
 }
 
-// `block` samples of each source, added to the output buffer; each start row becomes its target.
-pub fn render(s: Session, block: usize, samples: &[f32], outputs: &mut [f32]) -> Answer
+// `block` samples of each source, added to the output buffer; each start row becomes its target. An `Err` leaves the buffer, and the caller's session, as it is.
+pub fn render(
+    s: Session,
+    block: usize,
+    samples: &[f32],
+    outputs: &mut [f32],
+) -> Result<Session, Refusal>
     // The program's choice: sign and payload of a gain that is a NaN, in the start rows of a hand-made layout. Every choice is a quiet NaN. Every other number is the definition's, bit for bit.
-    ensures value { result ≡ answer_of s (render block samples.now outputs.old) }
+    ensures value { answered s result ≡ answer_of s (render block samples.now outputs.old) }
     // The program's choice: sign and payload of a ramped sample that is a NaN. Every choice is a quiet NaN. A refused render leaves every sample as it is.
     ensures outputs_after { outputs.new ≡ rendered_buffer s block samples.now outputs.old }
 {
-    let why = refusal(s, block, samples, &*outputs);
-    if why != 0 {
-        // a refused render leaves the session and the buffer as they are
-        return Answer {
-            session: s,
-            number: why,
-        };
-    }
-    let from = s.starts;
-    let to = new_starts(s, from);
+    refusal(&s, block, samples, &*outputs)?;
+    let to = new_starts(&s);
     mix_block::mix(
         block,
         s.panner.num_outputs as usize,
         s.sources as usize,
         samples,
-        &from,
+        &s.starts,
         &to,
         outputs,
     );
-    Answer {
-        session: session_calls::with_starts(s, to),
-        number: 0,
-    }
+    Ok(session_calls::with_starts(s, to))
 }
