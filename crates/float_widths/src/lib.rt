@@ -47,25 +47,30 @@ pub fn round_shift(m: u64, sh: u32) -> u64
     d / 2 + carry(d, (d << h) != m)
 }
 
+// The sign's part of a pattern. It is added in one place: with a pattern made in each branch, or the value negated at the end, narrowing takes a branch on the sign, and nearly twice the time.
+fn sign_part<W: Width>(neg: bool) -> u64
+    ensures { result ≡ (if neg then W.SIGN else 0) }
+{
+    if neg { W::SIGN } else { 0 }
+}
+
 // q * 2^k of the format's smallest values, with the sign; too many are an infinity.
 // The pattern is a sum: the leading digit of q adds one to the exponent's field, and a q with one digit more, 2^24 or 2^53, carries into it.
 pub fn assemble<W: Width>(neg: bool, q: u64, k: u32) -> W
     requires { (q ≤ 2 ^ prec W.format) × (0 < k → 2 ^ (prec W.format - 1) ≤ q) }
     ensures { W.value result ≡ units W.format neg q k }
 {
-    let (sign, weight, highest) = (W::SIGN, W::FIELD, W::HIGHEST);
+    let (weight, highest) = (W::FIELD, W::HIGHEST);
     // Origin: 2 * emax is one less than the highest field
     if k as u64 >= highest - 1 {
-        if neg {
+        return if neg {
             W::infinity().negated()
         } else {
             W::infinity()
-        }
-    } else if neg {
-        W::of_pattern(sign + (k as u64 * weight + q))
-    } else {
-        W::of_pattern(k as u64 * weight + q)
+        };
     }
+    let sign = sign_part::<W>(neg);
+    W::of_pattern(sign + (k as u64 * weight + q))
 }
 
 // The f32 nearest to m * 2^j / 2^1074. In smallest f32 values that is m * 2^j / 2^925; of its whole part, of z + j - 925 digits, 24 are kept.
