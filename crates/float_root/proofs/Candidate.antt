@@ -3,15 +3,16 @@ use mathlib.Core.Path.{◌≡◌, refl, sym, ap, ◌∙◌, subst}
 use mathlib.Core.Logic.{inl, inr}
 use mathlib.Core.Bool.{false, not}
 use Prim.Native.Nat.{ℕ, suc, ◌+◌, ◌-◌, ◌*◌, ◌/◌, ◌%◌, ◌^◌, ◌≤◌, ◌<◌}
-use native.Mathlib.Nat.{mul_assoc, mul-le-mul_right, le_trans, le_of_eq, eq-zero-or-pos}
+use native.Mathlib.Nat.{mul_assoc, mul-le-mul_right, le_trans, le_of_eq, le_of_lt, zero-add, eq-zero-or-pos}
 use native.Mathlib.Omega.{arith}
 use borrow.Author.Tests.{lt-leb}
 use lib.Dec.{T}
 use lib.Pow.{pow-add}
-use lib.Ieee.{Float, Format, binary32, binary64, prec, emax, low, nearest, units, fits, hid, ones, top, nan_bits, to_bits}
+use lib.Ieee.{Float, Format, binary32, binary64, prec, emax, low, nearest, units, fits, hid, ones, top, nan_bits, of_bits, to_bits}
+use lib.Ieee.Bits.{of_bits-to_bits}
 use lib.Ieee.Nearest.{closest}
 use Rattle.float_root.specs.Root.{round_root, sqrt_of}
-use Rattle.float_order.proofs.Laws.{is_lt, is_gt, closest_by, pattern_no_nan}
+use Rattle.float_order.proofs.Laws.{is_lt, is_gt, closest_by, of_pattern, pattern_no_nan}
 use Rattle.float_widths.proofs.Grid.{le_or_lt}
 use Rattle.float_root_digits.proofs.Squares.{sq_lt, sq_suc, sq_twice}
 use Rattle.float_root_digits.proofs.Digits.{IsNearest, doubled}
@@ -130,3 +131,10 @@ low_pattern p lo hi =
   where
     sum : (p : ℕ) → 2 ^ 52 ≤ p → 0 + ((p / 2 ^ 52 - 1) * 2 ^ 52 + (p % 2 ^ 52 + 2 ^ 52)) ≡ p
     sum p h = omega arith
+
+-- ---- a value from 1 to 2 is put together from its own digits
+pub own_digits : (g : Float) (q : ℕ) → T (fits binary64 g) → to_bits binary64 g ≡ 1022 * 2 ^ 52 + q → 2 ^ 52 ≤ q → q < 2 ^ 53 → g ≡ units binary64 false q 1022
+own_digits g q h e lo hi =
+    sym (of_bits-to_bits binary64 g h)
+    ∙ ap (λ (n : ℕ). of_bits binary64 n) (e ∙ sym (zero-add (1022 * 2 ^ 52 + q)))
+    ∙ of_pattern binary64 false q 1022 (le_of_lt hi) (λ _. lo) (omega arith)

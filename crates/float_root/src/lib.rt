@@ -148,7 +148,7 @@ fn sqrt64_from(x: f64, g: f64) -> f64
     // Origin: the exponent is e - 1 + 1074, of which 52 are in n * 2^52. At 1022 x lies from 1 to 4, and the result is g
     let k = (e + 1021) / 2;
     if k == 1022 {
-        return float_widths::assemble(false, q, 1022);
+        return g;
     }
     float_widths::assemble(false, q, k as u32)
 }

@@ -2,7 +2,8 @@
 // Every literal that is a format's constant is IEEE 754-2019, table 3.5: in a binary64's bit pattern the exponent's field weighs 2^52 = 0x10_0000_0000_0000.
 #![tactic(auto)]
 
-ghost use Rattle.std.specs.Prelude.{◌≡◌, ◌+◌, ◌-◌, ◌*◌, ◌/◌, ◌%◌, ◌^◌, ◌<◌, ◌≤◌, true, IfSome};
+ghost use Rattle.std.specs.Prelude.{◌≡◌, ◌+◌, ◌-◌, ◌*◌, ◌/◌, ◌%◌, ◌^◌, ◌<◌, ◌≤◌, true, to_bits, IfSome};
+ghost use Rattle.std.specs.Float.{binary64};
 ghost use Rattle.std.specs.Float.Ieee.{prec};
 
 use float_order::Width;
@@ -61,11 +62,12 @@ fn is_root52(n: u64, q: u64) -> bool
 }
 
 // The digits of g where they are the root of n * 2^52 to the nearest whole number.
-// One side is promised: some digits are the root's. That a good guess has some is left open, and nothing rests on it: `float_root` then finds the digits one by one.
+// One side is promised: some digits are the root's, and those of g. That a good guess has some is left open, and nothing rests on it: `float_root` then finds the digits one by one.
 // It has no form with the 32 bits' below: there the squares fit a word, and the digits of g are rounded first.
 pub fn root_digits64(n: u64, g: f64) -> Option<u64>
     requires { n < 2 ^ 54 }
-    ensures { IfSome result (λ q. (2 ^ 52 ≤ q) × (q < 2 ^ 53) × (q * q < n * 2 ^ 52 + q) × (n * 2 ^ 52 ≤ q * q + q)) }
+    ensures own { IfSome result (λ q. to_bits binary64 g ≡ 1022 * 2 ^ 52 + q) }
+    ensures root { IfSome result (λ q. (2 ^ 52 ≤ q) × (q < 2 ^ 53) × (q * q < n * 2 ^ 52 + q) × (n * 2 ^ 52 ≤ q * q + q)) }
 {
     if g != g {
         return None;

@@ -9,7 +9,7 @@ use lib.Ieee.Compare.{differs_from_itself}
 use Rattle.float_root.specs.Root.{sqrt_of}
 use Rattle.float_order.proofs.Read.{nan_not}
 use Rattle.float_root.proofs.Sqrt.{sqrt_nan}
-use Rattle.float_root.proofs.Candidate.{quick_root}
+use Rattle.float_root.proofs.Candidate.{own_digits, quick_root}
 use Rattle.float_root_digits.proofs.Digits.{doubled}
 use Rattle.float_root.proofs.sqrt64_from.Goals as goal
 use Rattle.float_root.proofs.sqrt64_from.Goals.{In-Some}
@@ -17,7 +17,7 @@ use Rattle.float_root.proofs.sqrt64_from.Goals.{In-Some}
 -- the candidate that passed
 passed : (c : In-Some) → units binary64 false c.in-Some.q ((to_bits binary64 c.args.x / 2 ^ 52 + 1021) / 2) ≡ sqrt_of binary64 c.args.x
 passed c =
-    let r = c.in-Some.ensures in
+    let r = c.in-Some.ensures.root in
     quick_root binary64 c.args.x (subst T (sym c.well_formed.0.1) tt) c.even_digits-n.result c.in-Some.q c.if-e-eq0.false c.if-e-ge2047.false
     c.even_digits-n.ensures (r.2, r.3) r.0 r.1
 
@@ -33,14 +33,13 @@ root_digits64-requires c =
     let d = doubled (p % 2 ^ 52 + 2 ^ 52) (p / 2 ^ 52 % 2) (omega arith) in
     omega arith
 
-pub assemble-requires : goal.assemble-requires
-assemble-requires c = let r = c.in-Some.ensures in (omega arith, (λ _. r.0))
-
 pub returns-then-k-eq1022 : goal.returns-then-k-eq1022
-returns-then-k-eq1022 c = c.assemble.ensures ∙ ap (units binary64 false c.in-Some.q) (sym c.if-k-eq1022.true) ∙ passed (goal.at.returns-then-k-eq1022 c).In-Some
+returns-then-k-eq1022 c =
+    let r = c.in-Some.ensures.root in
+    own_digits c.args.g c.in-Some.q (subst T (sym c.well_formed.1.0.1) tt) c.in-Some.ensures.own r.0 r.1 ∙ ap (units binary64 false c.in-Some.q) (sym c.if-k-eq1022.true) ∙ passed (goal.at.returns-then-k-eq1022 c).In-Some
 
-pub assemble-requires-2 : goal.assemble-requires-2
-assemble-requires-2 c = let r = c.in-Some.ensures in (omega arith, (λ _. r.0))
+pub assemble-requires : goal.assemble-requires
+assemble-requires c = let r = c.in-Some.ensures.root in (omega arith, (λ _. r.0))
 
 pub returns : goal.returns
-returns c = c.assemble-2.ensures ∙ passed (goal.at.returns c).In-Some
+returns c = c.assemble.ensures ∙ passed (goal.at.returns c).In-Some

@@ -6,5 +6,5 @@ use Rattle.float_root_digits.proofs.root_digits64.Goals as goal
 pub float_to_bits-p : goal.float_to_bits-p
 float_to_bits-p c = nan_not _ c.if-g.false
 
-pub returns-then-is_root52 : goal.returns-then-is_root52
-returns-then-is_root52 c = let e = c.is_root52.ensures c.if-is_root52.true in (omega arith, omega arith, e.0, e.1)
+pub returns-then-is_root52-clause-root : goal.returns-then-is_root52-clause-root
+returns-then-is_root52-clause-root c = let e = c.is_root52.ensures c.if-is_root52.true in (omega arith, omega arith, e.0, e.1)
