@@ -18,31 +18,62 @@ const ARCTANGENTS: [f64; 8] = [
     -0.06666666666666667, // -1 / 15, bfb1111111111111
 ];
 
-// A guess at the root of A's second step, one over the cosine of half the angle, from c, near the cosine of the angle.
-// Origin: the polynomials nearest to the root and to half of its inverse for a c from cos(pi / 4) to 1, within 2e-10, in d, the distance from the middle; any numbers serve, since the root is checked.
-fn second_guess(c: f64) -> Guess {
-    let d = c - 0.8535533905932737;
-    let e = d * d;
-    let root = 1.03875337475 - 0.280205952449 * d
-        + e * (0.1133792366347 - 0.0509726424909 * d)
-        + e * e * (0.0240621858 - 0.0117933104 * d + e * 0.005840984);
-    let slope = 0.48134620986511 + 0.1298441721390 * d
-        - e * (0.0175128084946 - 0.0047240587952 * d)
-        - e * e * (0.0016007975 - 0.0006067408 * d);
-    float_root::guess_of(root, root, slope)
+// The numbers of a guess at a root and at its slope, for a c from cos(pi / 4) to 1, in d, the distance from the middle.
+struct Near {
+    root: [f64; 7],
+    slope: [f64; 6],
 }
 
-// The same for the third step, of a quarter of the angle.
-// Origin: the same of one over the cosine of a quarter of the angle.
-fn third_guess(c: f64) -> Guess {
+// A's second step, one over the cosine of half the angle. Origin: the polynomials nearest to the root and to half of its inverse, within 2e-10; any numbers serve, since the root is checked.
+const SECOND: Near = Near {
+    root: [
+        1.03875337475,
+        -0.280205952449,
+        0.1133792366347,
+        -0.0509726424909,
+        0.0240621858,
+        -0.0117933104,
+        0.005840984,
+    ],
+    slope: [
+        0.48134620986511,
+        0.1298441721390,
+        -0.0175128084946,
+        0.0047240587952,
+        -0.0016007975,
+        0.0006067408,
+    ],
+};
+
+// A's third step, one over the cosine of a quarter of the angle. Origin: the same; the last power is not needed.
+const THIRD: Near = Near {
+    root: [
+        1.00945944364044,
+        -0.0667819493983,
+        0.0156342644610,
+        -0.0049480327835,
+        0.0018119258,
+        -0.0007177334,
+        0.0,
+    ],
+    slope: [
+        0.495314599481495,
+        0.0327681064393,
+        -0.0055035176239,
+        0.0015562774094,
+        -0.0005382283,
+        0.0002061300,
+    ],
+};
+
+// A guess at the root of one of A's later steps, from c, near the cosine of the angle.
+fn guess(c: f64, n: &Near) -> Guess {
     let d = c - 0.8535533905932737;
     let e = d * d;
-    let root = 1.00945944364044 - 0.0667819493983 * d
-        + e * (0.0156342644610 - 0.0049480327835 * d)
-        + e * e * (0.0018119258 - 0.0007177334 * d);
-    let slope = 0.495314599481495 + 0.0327681064393 * d
-        - e * (0.0055035176239 - 0.0015562774094 * d)
-        - e * e * (0.0005382283 - 0.0002061300 * d);
+    let r = &n.root;
+    let root = r[0] + r[1] * d + e * (r[2] + r[3] * d) + e * e * (r[4] + r[5] * d + e * r[6]);
+    let s = &n.slope;
+    let slope = s[0] + s[1] * d + e * (s[2] + s[3] * d) + e * e * (s[4] + s[5] * d);
     float_root::guess_of(root, root, slope)
 }
 
@@ -60,7 +91,7 @@ pub fn atan(q: f64) -> f64
     let g = float_root::guess_root(1.0 + q * q);
     // the slope is half of the cosine
     let c = g.slope * 2.0;
-    let h = halved(halved(halved(q, g), second_guess(c)), third_guess(c));
+    let h = halved(halved(halved(q, g), guess(c, &SECOND)), guess(c, &THIRD));
     8.0 * (h * float_sine::sum(&ARCTANGENTS, h * h))
 }
 
