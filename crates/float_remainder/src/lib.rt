@@ -45,6 +45,7 @@ impl Field {
         }
         let mut d = r;
         let mut e = k;
+        // no index is counted: it ends where the leading digit is reached, or no power is left
         while d < w && e > 0 {
             d = d * 2;
             e = e - 1;

@@ -183,7 +183,7 @@ pub fn sqrt64(x: f64) -> f64
     sqrt64_from(x, refined(v, guess_root(v)))
 }
 
-// As an f64, the value of an f32 with the pattern b times or over a power of 4, from 1 to 4; of what has no root, or is too small, any number.
+// As an f64, the value of an f32 with the pattern b times or over a power of 4, from 1 to 4; of what has no root, or is too small, any number. The digits are moved up besides, so that it has no form with the f64's.
 fn scaled32(b: u32) -> f64 {
     // Origin: the digits and the last of the exponent's field, 2^24; 29 digits more, and the field 1023 or 1024
     f64::from_bits(
