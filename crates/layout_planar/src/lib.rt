@@ -2,7 +2,7 @@
 // Lengths of arrays: 40 speakers (document 01, refusal 2), so at most 40 spots and 40 pairs, and three numbers a direction, 120.
 #![tactic(auto)]
 
-ghost use Rattle.std.specs.Prelude.{◌≡◌, ◌≤◌, true, map, take, replicate};
+ghost use Rattle.std.specs.Prelude.{◌≡◌, ◌≤◌, true, take, replicate};
 ghost use Rattle.lists.specs.Lists.{every};
 ghost use Rattle.vector.specs.Speakers.{speakers_in};
 ghost use Rattle.layout_planar.specs.Planar.{spot_of, ring, gap_at, inverse_law, pair_of, no_pair};
@@ -58,11 +58,11 @@ fn spot(slot: u8, dir: [f64; 3]) -> Spot
     }
 }
 
-// The azimuths and slots of n speakers, in slot order, in the array's first places.
-fn spots(out: &[u8; 40], dir: &[f64; 120], n: usize) -> [Spot; 40]
+// The azimuths and slots of n speakers in ascending order of azimuth, equals in slot order, in the array's first places.
+fn sorted_spots(out: &[u8; 40], dir: &[f64; 120], n: usize) -> [Spot; 40]
     requires { n ≤ 40 }
-    ensures are { take n result ≡ map spot_of (speakers_in n out.now dir.now) }
-    ensures slots { every slot_fits (map spot_of (speakers_in n out.now dir.now)) ≡ true }
+    ensures are { take n result ≡ ring (speakers_in n out.now dir.now) }
+    ensures slots { every slot_fits (take n result) ≡ true }
 {
     let mut a = [Spot {
         angle: 0.0,
@@ -72,16 +72,6 @@ fn spots(out: &[u8; 40], dir: &[f64; 120], n: usize) -> [Spot; 40]
         let s = spot(out[i], vector::point(dir, i));
         a[i] = s;
     }
-    a
-}
-
-// The same in ascending order of their azimuths, equals in slot order.
-fn sorted_spots(out: &[u8; 40], dir: &[f64; 120], n: usize) -> [Spot; 40]
-    requires { n ≤ 40 }
-    ensures are { take n result ≡ ring (speakers_in n out.now dir.now) }
-    ensures slots { every slot_fits (take n result) ≡ true }
-{
-    let mut a = spots(out, dir, n);
     angle_sort::sort(&mut a[..n]);
     a
 }
@@ -173,7 +163,8 @@ pub fn build_planar(out: &[u8; 40], dir: &[f64; 120], n: usize) -> Planar
     let ring = &a[..n];
     let first = a[0];
     let mut here = float_sine::sin_cos(first.angle);
-    let mut pairs = no_pairs();
+    let none = no_pair();
+    let mut pairs = [none; 40];
     // fixed memory: the pairs stand in an array of 40, and how many there are beside it
     let mut num_pairs: usize = 0;
     for (i, s) in ring.iter().enumerate() {

@@ -29,7 +29,7 @@ told_at p =
 
 pub loop-i-init : goal.loop-i-init
 loop-i-init c =
-    (zero-le, λ h. both_told _ c.sin_cos-here.ensures ∙ ap (λ (s : Spot). sin_cos_of s.angle) (sym (get_or-take c.args.n c.sorted_spots-a.result 0 (record { angle = nan; number = 0 }) (omega (arith, length-take c.args.n c.sorted_spots-a.result)))), rw c.no_pairs-pairs.ensures (pairs_none _))
+    (zero-le, λ h. both_told _ c.sin_cos-here.ensures ∙ ap (λ (s : Spot). sin_cos_of s.angle) (sym (get_or-take c.args.n c.sorted_spots-a.result 0 (record { angle = nan; number = 0 }) (omega (arith, length-take c.args.n c.sorted_spots-a.result)))), rw c.no_pair-none.ensures (pairs_none _))
 
 pub pair_of-pair-requires : goal.pair_of-pair-requires
 pair_of-pair-requires c =
