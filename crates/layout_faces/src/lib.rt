@@ -174,7 +174,8 @@ fn well_apart(pts: &[[f64; 3]], t: Triple, raw: [f64; 3]) -> bool
     let n = pts.len();
     let mut over = false;
     let mut under = false;
-    for p in 0..n.div_ceil(2) {
+    // half of the points, the greater one, each with its fellow from the other end
+    for p in 0..n - n / 2 {
         let v = height(plane, pts[p]);
         let w = height(plane, pts[n - 1 - p]);
         over = over | (v > MARGIN) | (w > MARGIN);
