@@ -120,7 +120,7 @@ fn candidate(pts: &[[f64; 3]]) -> Option<Best>
     best
 }
 
-// The first n directions, with room for the imaginary points.
+// The first n directions, with room for the imaginary points: fixed memory, so points are an array's first places.
 fn with_room(dir: &[f64; 120], n: usize) -> [[f64; 3]; 54]
     requires { n ≤ 40 }
     ensures { take n result ≡ points_in n dir.now }
@@ -132,7 +132,7 @@ fn with_room(dir: &[f64; 120], n: usize) -> [[f64; 3]; 54]
     pts
 }
 
-// The n directions with the poles and, while the hull is open and fewer than fourteen points are imaginary, candidates.
+// The n directions, three numbers each in an array of fixed memory, with the poles and, while the hull is open and fewer than fourteen points are imaginary, candidates.
 pub fn close(dir: &[f64; 120], n: usize) -> Ended
     requires { n ≤ 40 }
     ensures { result ≡ ended_in (points_in n dir.now) }
@@ -143,6 +143,7 @@ pub fn close(dir: &[f64; 120], n: usize) -> Ended
     let mut m = with_pole(&mut pts, top, [0.0, -1.0, 0.0]);
     let mut hull = layout_hull::hull_triplets(&pts[..m]);
     let mut over = hull.over;
+    // m is how many points there are, and no count to go over: it rises only where a candidate is found
     while m - n < MAX_IMAGINARY {
         if hull.enclosed {
             break;

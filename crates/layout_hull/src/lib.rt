@@ -17,7 +17,7 @@ const LEAST_DETERMINANT: f64 = 1e-9;
 // How many triplets a hull may have. Origin: document 01, refusal 4.
 const MOST_TRIPLETS: usize = 80;
 
-// The triplets of a hull laid flat (the source's `tris`), whether there were more than 80, and whether they tile the sphere (the source's `tiled`). Both are told of the same triplets, in any pairing, and none of the fields waits on one of them.
+// The triplets of a hull laid flat (the source's `tris`), whether there were more than 80, and whether they tile the sphere (the source's `tiled`). Triplets stand there whatever the two flags say, so neither makes an Option of the rest.
 #[derive(Clone, Copy)]
 pub struct Hull {
     pub idx: [u8; 240],

@@ -109,6 +109,7 @@ fn neighbours_of(g: Given, p: usize) -> Search
         found: 0,
     };
     s.visited[p] = true;
+    // ended by what a pass found, and not by a count
     loop {
         let seen = s.seen;
         pass(g, &mut s);
@@ -126,7 +127,7 @@ fn store(all: &mut [u8; 560], k: usize, nbrs: &[u8; 40])
     all[k * 40..k * 40 + 40].copy_from_slice(nbrs);
 }
 
-// The neighbours of the imaginary points nreal to n - 1.
+// The neighbours of the imaginary points nreal to n - 1. The numbers and slots come in arrays of fixed memory, each with its count.
 pub fn neighbours(idx: &[u8; 240], tris: usize, out: &[u8; 40], nreal: usize, n: usize) -> ImagNbrs
     requires { Numbered idx.now tris out.now nreal n }
     ensures { result ≡ neighbours_in (take nreal out.now) (triples_in tris idx.now) (n - nreal) }
