@@ -11,7 +11,7 @@ ghost use Rattle.layout_planar.specs.Inner.Arrays.{slot_fits, sin_cos_of, law_by
 use angle_sort::Spot;
 use float_sine::SinCos;
 
-// How a planar pair shares its power (document 01: the law): the inverse of its two directions' matrix, row after row, or the crossfade.
+// How a planar pair shares its power, in the form that document 01 names (the law): the inverse of its two directions' matrix, row after row, or the crossfade.
 #[derive(Clone, Copy)]
 pub enum Law {
     Inverse(f32, f32, f32, f32),
@@ -153,7 +153,7 @@ pub fn no_pairs() -> [PlanarPair; 40]
     [none; 40]
 }
 
-// The pairs of the ring that n active speakers make: their slots, and three numbers a direction.
+// The pairs of the ring that n active speakers make: their slots, and three numbers a direction, both in arrays of fixed memory.
 // The sine and the cosine of each spot serve the pair that ends at it and the one that starts there.
 pub fn build_planar(out: &[u8; 40], dir: &[f64; 120], n: usize) -> Planar
     requires { n ≤ 40 }

@@ -34,6 +34,7 @@ fn widened(p: [f32; 3]) -> [f64; 3]
     ]
 }
 
+#[tactic(auto, unfolding(crate::specs::Vector::cross_of, crate::specs::Vector::minor))]
 pub fn cross(a: [f64; 3], b: [f64; 3]) -> [f64; 3]
     ensures { result ≡ cross_of a b }
 {
@@ -44,6 +45,7 @@ pub fn cross(a: [f64; 3], b: [f64; 3]) -> [f64; 3]
     ]
 }
 
+#[tactic(auto, unfolding(crate::specs::Vector::dot_of, crate::specs::Vector::dot_in))]
 pub fn dot(a: [f64; 3], b: [f64; 3]) -> f64
     ensures { result ≡ dot_of a b }
 {
@@ -51,6 +53,7 @@ pub fn dot(a: [f64; 3], b: [f64; 3]) -> f64
 }
 
 // a - b.
+#[tactic(auto, unfolding(crate::specs::Vector::less_of))]
 pub fn less(a: [f64; 3], b: [f64; 3]) -> [f64; 3]
     ensures { result ≡ less_of a b }
 {
@@ -58,6 +61,7 @@ pub fn less(a: [f64; 3], b: [f64; 3]) -> [f64; 3]
 }
 
 // a / l.
+#[tactic(auto, unfolding(crate::specs::Vector::over_of))]
 pub fn over(a: [f64; 3], l: f64) -> [f64; 3]
     ensures { result ≡ over_of a l }
 {
@@ -65,6 +69,7 @@ pub fn over(a: [f64; 3], l: f64) -> [f64; 3]
 }
 
 // -a.
+#[tactic(auto, unfolding(crate::specs::Vector::negated_of))]
 pub fn negated(a: [f64; 3]) -> [f64; 3]
     ensures { result ≡ negated_of a }
 {
@@ -72,6 +77,7 @@ pub fn negated(a: [f64; 3]) -> [f64; 3]
 }
 
 // The square root of a·a.
+#[tactic(auto, unfolding(crate::specs::Vector::length_of))]
 pub fn length64(a: [f64; 3]) -> f64
     ensures { result ≡ length_of a }
 {
@@ -88,6 +94,7 @@ pub fn point(flat: &[f64], i: usize) -> [f64; 3]
 }
 
 // The direction of a source at an azimuth and an elevation.
+#[tactic(auto, unfolding(crate::specs::Vector::dir_vec_of))]
 pub fn dir_vec(az: f32, el: f32) -> [f32; 3]
     ensures { result ≡ dir_vec_of az el }
 {
