@@ -3,7 +3,7 @@
 #![tactic(auto)]
 
 ghost use Rattle.std.specs.Prelude.{◌≡◌, ◌<◌, length, take};
-ghost use Rattle.row_fill.specs.Counts.{HullCounts};
+ghost use Rattle.row_fill.specs.Counts.{PointCounts};
 ghost use Rattle.row_fill.specs.Inner.Filling.{to_real, to_imag, is_real, real_points, imag_points, shared_by, shared_out, placed};
 
 use layout_record::VbapPanner;
@@ -39,7 +39,7 @@ fn to_imag(sums: &mut [f32; MAX_IMAGINARY], n: u8, p: u8, g: f32)
 // The gains of triplet t to its real points.
 #[tactic(auto, unfolding(crate::specs::Inner::Filling::real_points))]
 fn real_points(out: &mut [f32], panner: &VbapPanner, t: usize, g: [f32; 3])
-    requires { HullCounts panner.now × (t < 80) }
+    requires { PointCounts panner.now × (t < 80) }
     ensures row { out.new ≡ real_points (take panner.now.num_real panner.now.pt_out) panner.now.idx t g out.old }
     ensures long { length panner.now.pt_out ≡ 40 }
 {
@@ -91,7 +91,7 @@ fn share(out: &mut [f32], nbrs: &[u8], g: f32)
 
 // Those of all imaginary points.
 fn share_out(out: &mut [f32], panner: &VbapPanner, sums: &[f32; MAX_IMAGINARY])
-    requires { HullCounts panner.now }
+    requires { PointCounts panner.now }
     ensures { out.new ≡ shared_out panner.now.num_nbrs panner.now.imag_nbrs sums.now panner.now.num_imag out.old }
 {
     for k in 0..panner.num_imag as usize {
@@ -103,7 +103,7 @@ fn share_out(out: &mut [f32], panner: &VbapPanner, sums: &[f32; MAX_IMAGINARY])
 
 // The gains of triplet t in an empty row: in the slots of its real points, and shared out from its imaginary ones.
 pub fn fill(out: &mut [f32], panner: &VbapPanner, t: usize, g: [f32; 3])
-    requires { HullCounts panner.now × (t < 80) }
+    requires { PointCounts panner.now × (t < 80) }
     ensures { out.new ≡ placed panner.now t g (length out.old) }
 {
     row_places::zero(out);

@@ -24,7 +24,7 @@ use Rattle.row_gains.specs.Gains.{finite_or0, row_in, row_of, gains_of, gains_nu
 -- ---- counts within the arrays
 
 pub hull_counts : (v : VbapPanner) → counts_over v ≡ false → HullCounts v
-hull_counts v e = let w = within v e in record { real = w.real; tris = w.tris; imag = w.imag; nbrs = w.nbrs }
+hull_counts v e = let w = within v e in record { points = record { real = w.real; imag = w.imag; nbrs = w.nbrs }; tris = w.tris }
 
 -- ---- a row by its kind
 

@@ -3,7 +3,7 @@
 // Entry e of the inverse of triplet t stands at e * 80 + t, so row r, three entries, starts at r * 240 + t, and the next entries are 80 and 160 further.
 #![tactic(auto)]
 
-ghost use Rattle.std.specs.Prelude.{◌≡◌, ℕ, [], ◌∷◌, ◌<◌, length, get_or, replicate, IfSome};
+ghost use Rattle.std.specs.Prelude.{◌≡◌, ℕ, [], ◌∷◌, ◌<◌, ◌≤◌, length, get_or, replicate, IfSome};
 ghost use Rattle.std.specs.Option.{unwrap_or};
 ghost use Rattle.std.specs.Float.{nan, binary32};
 ghost use Rattle.lists.specs.Lists.{part};
@@ -11,7 +11,7 @@ ghost use Rattle.float_order.specs.Values.{+0};
 ghost use Rattle.float_order.specs.Order.{min_of};
 ghost use Rattle.vector.specs.Vector.{dot_in};
 ghost use Rattle.row_greatest.specs.Greatest.{first_greatest};
-ghost use Rattle.row_fill.specs.Counts.{HullCounts};
+ghost use Rattle.row_fill.specs.Counts.{PointCounts, HullCounts};
 ghost use Rattle.row_hull.specs.HullRow.{hull_row, scaled};
 ghost use Rattle.row_hull.specs.Inner.Steps.{hull_shape, gain_at, gains_at, leasts_of, products_of, nearest_in, power_of, times_of};
 
@@ -61,7 +61,7 @@ fn least(g: [f32; 3]) -> f32
 
 // The number of the triplet whose least gain is greatest, if there is one.
 fn chosen(panner: &VbapPanner, s: [f32; 3]) -> Option<usize>
-    requires { HullCounts panner.now }
+    requires { panner.now.num_tris ≤ 80 }
     ensures place { (none : ℕ) → unwrap_or result none ≡ first_greatest none (leasts_of s panner.now.inv panner.now.num_tris) }
     ensures within { IfSome result (λ t. t < panner.now.num_tris) }
 {
@@ -116,7 +116,7 @@ fn product(dirs: &[f32; 120], i: usize, s: [f32; 3]) -> f32
 
 // The number of the real point whose product with the direction is greatest; 0 where there is none.
 fn nearest_point(panner: &VbapPanner, s: [f32; 3]) -> usize
-    requires { HullCounts panner.now }
+    requires { PointCounts panner.now }
     ensures { result ≡ first_greatest 0 (products_of s panner.now.pt_dir panner.now.num_real) }
 {
     let n = panner.num_real as usize;
@@ -129,7 +129,7 @@ fn nearest_point(panner: &VbapPanner, s: [f32; 3]) -> usize
 
 // +0 throughout, and 1 in the slot of the nearest real point; nothing there where there is none.
 fn nearest(out: &mut [f32], panner: &VbapPanner, s: [f32; 3])
-    requires { HullCounts panner.now }
+    requires { PointCounts panner.now }
     ensures { out.new ≡ nearest_in s panner.now.pt_out panner.now.pt_dir panner.now.num_real (replicate (length out.old) +0) }
 {
     let i = nearest_point(panner, s);
