@@ -6,7 +6,7 @@ use mathlib.Core.List.{List}
 use native.Mathlib.Numerals.{add-one}
 use native.Mathlib.Omega.{arith}
 use lib.ListN.{length, get_or, take, drop, replicate, get_or-replicate, get_or-eq_default}
-use lib.Seq.{length-take-le, take-take}
+use lib.Seq.{take-take}
 use lib.Dec.{eqb, ltb}
 use lib.Ieee.{Float, nan, binary32, div, lt}
 use borrow.Author.Tests.{lt-ltb, ltb-true, ltb-false}
@@ -16,7 +16,7 @@ use Rattle.row_fill.proofs.Folds.{fold_none, fold_more}
 use Rattle.float_order.specs.Values.{+0, count32}
 use Rattle.float_root.specs.Root.{sqrt_of}
 use Rattle.layout_record.specs.declared.VbapPanner.{VbapPanner}
-use Rattle.row_fill.specs.Inner.Filling.{to_imag, is_real, real_points, imag_points, add_each, shared_by, shared_at, shared_out, placed}
+use Rattle.row_fill.specs.Inner.Filling.{to_imag, corners, is_real, real_points, imag_points, add_each, shared_by, shared_at, shared_out, placed}
 
 -- ---- a gain to an imaginary point, or none
 
@@ -69,13 +69,13 @@ zero_none k = by (ltb k 14) refl
     by true e = rw (get_or-replicate 14 k +0 nan (ltb-true k 14 e)) refl
     by false e = let h : length (replicate 14 +0) ≤ k = ltb-false k 14 e in rw (get_or-eq_default (replicate 14 +0) nan {n = k} h) refl
 
-pub real_shares : (n : ℕ) (idx : List ℕ) (t : ℕ) (g : List Float) → is_real n idx t ≡ true
-    → (counts nbrs : List ℕ) (m : ℕ) (row : List Float) → row ≡ shared_out counts nbrs (imag_points n idx t g) m row
+pub real_shares : (n : ℕ) (points : List ℕ) (g : List Float) → is_real n points ≡ true
+    → (counts nbrs : List ℕ) (m : ℕ) (row : List Float) → row ≡ shared_out counts nbrs (imag_points n points g) m row
 unfolding is_real imag_points
-real_shares n idx t g e counts nbrs m row =
-    let i = get_or idx (t * 3) 0 in
-    let j = get_or idx (t * 3 + 1) 0 in
-    let k = get_or idx (t * 3 + 2) 0 in
+real_shares n points g e counts nbrs m row =
+    let i = get_or points 0 0 in
+    let j = get_or points 1 0 in
+    let k = get_or points 2 0 in
     let p = and_left (ltb i n && ltb j n) (ltb k n) e in
     let z = replicate 14 +0 in
     let w = imag_no n i z (get_or g 0 nan) (ltb-true i n (and_left (ltb i n) (ltb j n) p)) ∙ imag_no n j _ (get_or g 1 nan) (ltb-true j n (and_right (ltb i n) (ltb j n) p)) ∙ imag_no n k _ (get_or g 2 nan) (ltb-true k n (and_right (ltb i n && ltb j n) (ltb k n) e)) in
@@ -83,8 +83,8 @@ real_shares n idx t g e counts nbrs m row =
 
 -- ---- the row of a triplet
 
-module _ (v : VbapPanner) (t : ℕ) (g : List Float) (n : ℕ) (h : v.num_real ≤ length v.pt_out) where
-  pub placed_told : {row : List Float} → row ≡ real_points (take v.num_real v.pt_out) v.idx t g (replicate n +0)
-      → shared_out v.num_nbrs v.imag_nbrs (imag_points v.num_real v.idx t g) v.num_imag row ≡ placed v t g n
+module _ (v : VbapPanner) (t : ℕ) (g : List Float) (n : ℕ) where
+  pub placed_told : {row : List Float} → row ≡ real_points (take v.num_real v.pt_out) (corners v.idx t) g (replicate n +0)
+      → shared_out v.num_nbrs v.imag_nbrs (imag_points (length (take v.num_real v.pt_out)) (corners v.idx t) g) v.num_imag row ≡ placed v t g n
   unfolding placed
-  placed_told e = rw (length-take-le v.num_real v.pt_out h, e) refl
+  placed_told e = rw e refl

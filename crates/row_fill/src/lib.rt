@@ -2,9 +2,9 @@
 // Origin of the numbers: document 01, "Returned numbers" (malformed): 80 triplets with 3 point numbers each; MAX_IMAGINARY imaginary points (vbap.rs line 60) with 40 neighbours each.
 #![tactic(auto)]
 
-ghost use Rattle.std.specs.Prelude.{◌≡◌, ◌<◌, length, take};
+ghost use Rattle.std.specs.Prelude.{◌≡◌, ◌<◌, length};
 ghost use Rattle.row_fill.specs.Counts.{PointCounts};
-ghost use Rattle.row_fill.specs.Inner.Filling.{to_real, to_imag, is_real, real_points, imag_points, shared_by, shared_out, placed};
+ghost use Rattle.row_fill.specs.Inner.Filling.{to_real, to_imag, corners, is_real, real_points, imag_points, shared_by, shared_out, placed};
 
 use layout_record::VbapPanner;
 use vector::MAX_IMAGINARY;
@@ -27,52 +27,52 @@ fn to_real(out: &mut [f32], slots: &[u8], p: u8, g: f32)
 
 // The same to its sum where p is an imaginary point, behind the n real ones.
 #[tactic(auto, unfolding(crate::specs::Inner::Filling::to_imag, row_places::specs::Places::add_at))]
-fn to_imag(sums: &mut [f32; MAX_IMAGINARY], n: u8, p: u8, g: f32)
+fn to_imag(sums: &mut [f32; MAX_IMAGINARY], n: usize, p: u8, g: f32)
     ensures { sums.new ≡ to_imag n sums.old p g }
 {
+    let p = p as usize;
     if n <= p {
-        let k = ((p - n) as usize).min(LAST);
-        sums[k] += float_order::max(g, 0.0);
+        sums[(p - n).min(LAST)] += float_order::max32(g, 0.0);
     }
 }
 
-// The gains of triplet t to its real points.
-#[tactic(auto, unfolding(crate::specs::Inner::Filling::real_points))]
-fn real_points(out: &mut [f32], panner: &VbapPanner, t: usize, g: [f32; 3])
-    requires { PointCounts panner.now × (t < 80) }
-    ensures row { out.new ≡ real_points (take panner.now.num_real panner.now.pt_out) panner.now.idx t g out.old }
-    ensures long { length panner.now.pt_out ≡ 40 }
+// The numbers of triplet t's points.
+fn corners(panner: &VbapPanner, t: usize) -> [u8; 3]
+    requires { t < 80 }
+    ensures { result ≡ corners panner.now.idx t }
 {
-    let slots = &panner.pt_out[..panner.num_real as usize];
     let at = t * 3;
-    to_real(out, slots, panner.idx[at], g[0]);
-    to_real(out, slots, panner.idx[at + 1], g[1]);
-    to_real(out, slots, panner.idx[at + 2], g[2]);
+    [panner.idx[at], panner.idx[at + 1], panner.idx[at + 2]]
 }
 
-// The gains of triplet t to its imaginary points.
+// The gains of three points to the real ones.
+#[tactic(auto, unfolding(crate::specs::Inner::Filling::real_points))]
+fn real_points(out: &mut [f32], slots: &[u8], points: [u8; 3], g: [f32; 3])
+    ensures { out.new ≡ real_points slots.now points g out.old }
+{
+    to_real(out, slots, points[0], g[0]);
+    to_real(out, slots, points[1], g[1]);
+    to_real(out, slots, points[2], g[2]);
+}
+
+// The gains of three points to the imaginary ones, behind the n real ones.
 #[tactic(auto, unfolding(crate::specs::Inner::Filling::imag_points))]
-fn imag_points(panner: &VbapPanner, t: usize, g: [f32; 3]) -> [f32; MAX_IMAGINARY]
-    requires { t < 80 }
-    ensures { result ≡ imag_points panner.now.num_real panner.now.idx t g }
+fn imag_points(n: usize, points: [u8; 3], g: [f32; 3]) -> [f32; MAX_IMAGINARY]
+    ensures { result ≡ imag_points n points g }
 {
     let mut sums = [0.0; MAX_IMAGINARY];
-    let at = t * 3;
-    to_imag(&mut sums, panner.num_real, panner.idx[at], g[0]);
-    to_imag(&mut sums, panner.num_real, panner.idx[at + 1], g[1]);
-    to_imag(&mut sums, panner.num_real, panner.idx[at + 2], g[2]);
+    to_imag(&mut sums, n, points[0], g[0]);
+    to_imag(&mut sums, n, points[1], g[1]);
+    to_imag(&mut sums, n, points[2], g[2]);
     sums
 }
 
-// Whether the points of triplet t are real ones.
+// Whether three points are real ones, of which there are n.
 #[tactic(auto, unfolding(crate::specs::Inner::Filling::is_real))]
-fn is_real(panner: &VbapPanner, t: usize) -> bool
-    requires { t < 80 }
-    ensures { result ≡ is_real panner.now.num_real panner.now.idx t }
+fn is_real(n: usize, points: [u8; 3]) -> bool
+    ensures { result ≡ is_real n points }
 {
-    let n = panner.num_real;
-    let at = t * 3;
-    (panner.idx[at] < n) & (panner.idx[at + 1] < n) & (panner.idx[at + 2] < n)
+    ((points[0] as usize) < n) & ((points[1] as usize) < n) & ((points[2] as usize) < n)
 }
 
 // ---- imaginary points
@@ -106,9 +106,11 @@ pub fn fill(out: &mut [f32], panner: &VbapPanner, t: usize, g: [f32; 3])
     requires { PointCounts panner.now × (t < 80) }
     ensures { out.new ≡ placed panner.now t g (length out.old) }
 {
+    let slots = &panner.pt_out[..panner.num_real as usize];
+    let points = corners(panner, t);
     row_places::zero(out);
-    real_points(out, panner, t, g);
-    if !is_real(panner, t) {
-        share_out(out, panner, &imag_points(panner, t, g));
+    real_points(out, slots, points, g);
+    if !is_real(slots.len(), points) {
+        share_out(out, panner, &imag_points(slots.len(), points, g));
     }
 }

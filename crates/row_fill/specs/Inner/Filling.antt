@@ -1,6 +1,6 @@
 -- Document 01, "A row" (Hull); source lines 550 to 572: a triplet's gains in their places, told of the record's flat arrays. That they make up `hull_row` is shown in crate row_hull. Assumes nothing.
 use Rattle.std.specs.Prelude.{ℕ, ◌+◌, ◌-◌, ◌*◌, min, Bool, ◌&&◌, not, cond, ltb, length, get_or, take, replicate, Float}
-use mathlib.Core.List.{List, foldl}
+use mathlib.Core.List.{List, [], ◌∷◌, foldl}
 use Rattle.std.specs.Float.{nan, binary32}
 use Rattle.std.specs.Float.Ieee.{div, lt}
 use Rattle.lists.specs.Lists.{range, is_empty, part}
@@ -19,19 +19,23 @@ to_real slots row p g = cond (ltb p (length slots)) (add_at row (get_or slots p 
 unfoldable pub to_imag : ℕ → List Float → ℕ → Float → List Float
 to_imag nreal imag p g = cond (ltb p nreal) imag (add_at imag (min (p - nreal) (max_imaginary - 1)) (max_of g +0))
 
--- those of the three points of triplet t, whose numbers stand one after the other
-unfoldable pub real_points : List ℕ → List ℕ → ℕ → List Float → List Float → List Float
-real_points slots idx t g row =
-    to_real slots (to_real slots (to_real slots row (get_or idx (t * 3) 0) (get_or g 0 nan)) (get_or idx (t * 3 + 1) 0) (get_or g 1 nan)) (get_or idx (t * 3 + 2) 0) (get_or g 2 nan)
+-- the three points of triplet t, whose numbers stand one after the other
+abbrev pub corners : List ℕ → ℕ → List ℕ
+corners idx t = get_or idx (t * 3) 0 ∷ get_or idx (t * 3 + 1) 0 ∷ get_or idx (t * 3 + 2) 0 ∷ []
 
-unfoldable pub imag_points : ℕ → List ℕ → ℕ → List Float → List Float
-imag_points nreal idx t g =
+-- the gains of three points
+unfoldable pub real_points : List ℕ → List ℕ → List Float → List Float → List Float
+real_points slots points g row =
+    to_real slots (to_real slots (to_real slots row (get_or points 0 0) (get_or g 0 nan)) (get_or points 1 0) (get_or g 1 nan)) (get_or points 2 0) (get_or g 2 nan)
+
+unfoldable pub imag_points : ℕ → List ℕ → List Float → List Float
+imag_points nreal points g =
     let none_yet = replicate max_imaginary +0 in
-    to_imag nreal (to_imag nreal (to_imag nreal none_yet (get_or idx (t * 3) 0) (get_or g 0 nan)) (get_or idx (t * 3 + 1) 0) (get_or g 1 nan)) (get_or idx (t * 3 + 2) 0) (get_or g 2 nan)
+    to_imag nreal (to_imag nreal (to_imag nreal none_yet (get_or points 0 0) (get_or g 0 nan)) (get_or points 1 0) (get_or g 1 nan)) (get_or points 2 0) (get_or g 2 nan)
 
 -- whether all three are real
-unfoldable pub is_real : ℕ → List ℕ → ℕ → Bool
-is_real nreal idx t = ltb (get_or idx (t * 3) 0) nreal && ltb (get_or idx (t * 3 + 1) 0) nreal && ltb (get_or idx (t * 3 + 2) 0) nreal
+unfoldable pub is_real : ℕ → List ℕ → Bool
+is_real nreal points = ltb (get_or points 0 0) nreal && ltb (get_or points 1 0) nreal && ltb (get_or points 2 0) nreal
 
 -- ---- an imaginary gain to its neighbours, and those of the first n imaginary points
 
@@ -55,4 +59,5 @@ shared_out counts nbrs imag n row = foldl (shared_at counts nbrs imag) row (rang
 unfoldable pub placed : VbapPanner → ℕ → List Float → ℕ → List Float
 placed v t g n =
     let slots = take v.num_real v.pt_out in
-    shared_out v.num_nbrs v.imag_nbrs (imag_points (length slots) v.idx t g) v.num_imag (real_points slots v.idx t g (replicate n +0))
+    let points = corners v.idx t in
+    shared_out v.num_nbrs v.imag_nbrs (imag_points (length slots) points g) v.num_imag (real_points slots points g (replicate n +0))
