@@ -28,7 +28,8 @@ use Rattle.layout_hull.specs.Triplets.{Triplet}
 use Rattle.layout_record.specs.Shape.{numbers, Shape, silent, mono, planar, hull, Layout, imaginary_in}
 use Rattle.layout_record.specs.Panner.{pairs_in, slots_in, hull_in, laid, no_panner}
 use Rattle.layout_record.specs.Meaning.{HullFits, ShapeFits}
-use Rattle.layout_new.specs.Layout.{layout_of, new_refusal, panner_of, NewAnswer, new_of}
+
+use Rattle.layout_new.specs.Layout.{NewAnswer, layout_of, new_refusal, panner_of, new_of}
 use Rattle.layout_new.proofs.Answers.{accepted_fits}
 use Rattle.mix_block.specs.Limits.{most_sources}
 use Rattle.boundary_records.specs.Places.{most_outputs, most_triplets, most_imaginary, head_places, pair_byte_places, slots_at, out_at, idx_at, idx_places, counts_of_nbrs_at, nbrs_at, nbr_places, record_byte_places, pair_float_places, dir_places, inv_at, inv_places, record_float_places, counts_at, start_places, standing_at, standing_places}

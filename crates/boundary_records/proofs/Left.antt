@@ -10,8 +10,7 @@ use lib.Ieee.{Float, nan}
 use lib.ListN.{length, get_or, drop, drop_of_length-le}
 use Rattle.session_history.specs.Calls.{place, take_back}
 use Rattle.session_calls.specs.declared.Session.{Session}
-use Rattle.session_calls.specs.declared.Answer.{Answer}
-use Rattle.session_calls.specs.Answers.{answer_of}
+use Rattle.session_calls.specs.Answers.{Answer, answer_of}
 use Rattle.boundary_records.specs.Sessions.{place_take_back}
 use Rattle.lists.proofs.Ends.{drop_next}
 

@@ -1,7 +1,16 @@
--- Copies of parts: one turn of the loop; a whole array that is filled from a part; parts that are laid one behind another. Assumes nothing.
-use Prim.Native.Nat.{ℕ, ◌+◌, ◌≤◌, ◌<◌}
-use mathlib.Core.Path.{◌≡◌, refl, sym, ap, ◌∙◌}
-use mathlib.Core.List.{List, [], ◌++◌, append-nil}
+-- Copies of parts: a whole array that is written, or made of a part; parts that are laid one behind another. Assumes nothing.
+use Prim.Native.Nat.{ℕ, zero, suc, ◌+◌, ◌-◌, ◌≤◌, ◌<◌}
+use mathlib.Core.Logic.{inl, inr}
+use mathlib.Core.Path.{◌≡◌, refl, sym, ap, subst, ◌∙◌}
+use mathlib.Core.List.{List, [], ◌∷◌, ◌++◌, map, append-nil, append_assoc}
+use borrow.Rule.Slice.PartMut.{put_mid, Post-is}
+use denote.Param.Members.{Mut}
+use Rattle.std.specs.Array.{IsFromFnResult, IsFromFnResultFrom}
+use Rattle.std.specs.Fn.{Called}
+use Rattle.std.proofs.lemmas.Bool.{cases_eq}
+use Rattle.std.proofs.lemmas.List.{get_or_default}
+use Rattle.lists.specs.Lists.{range}
+use Rattle.lists.proofs.Ranges.{by_places, drop_places}
 use native.Mathlib.Numerals.{add-one}
 use native.Mathlib.Omega.{arith}
 use lib.ListN.{length, get_or, take, drop, set, length-set, length-append, length-drop, replicate, length-replicate, drop_of_length-le}
@@ -10,42 +19,18 @@ use Rattle.boundary_records.specs.Inner.Pasted.{pasted, Pasted}
 use Rattle.boundary_records.specs.Records.{section}
 
 module _ {A : Type 0} where
-  -- ---- the loop that copies n places: what holds when i of them are copied
-
-  abbrev pub Copied : List A → ℕ → List A → ℕ → ℕ → List A → ℕ → Type 0
-  Copied from a to b n r i = (i ≤ n) × (length r ≡ length to) × (r ≡ pasted to b (drop a from) i)
-
-  module _ (from to : List A) (a b n : ℕ) where
-    pub copied_none : Copied from a to b n to 0
-    unfolding pasted
-    copied_none = (omega arith, refl, paste-zero to b (drop a from))
-
-    -- one turn
-    pub copied_more : {r : List A} {i : ℕ} (d : A) → (a + n ≤ length from) × (b + n ≤ length to) → i < n → Copied from a to b n r i
-        → Copied from a to b n (set r (b + i) (get_or from (a + i) d)) (i + 1)
-    unfolding pasted
-    copied_more {r} {i} d h t c =
-        let k : i < length (drop a from) = omega (arith, length-drop a from, h.0) in (
-          omega arith,
-          length-set r (b + i) (get_or from (a + i) d) ∙ c.1,
-          ap (λ (l : List A). set l (b + i) (get_or from (a + i) d)) c.2
-              ∙ ap (λ (x : A). set (pasted to b (drop a from) i) (b + i) x) (sym (get_or-drop a from i d))
-              ∙ paste-suc to b (drop a from) i d (omega (arith, h.1)) k
-              ∙ ap (pasted to b (drop a from)) (sym (add-one i)),
-        )
-
-    -- the last turn is done
-    pub copied_all : {r : List A} {i : ℕ} → n ≤ i → Copied from a to b n r i → Pasted to b (drop a from) n r
-    copied_all {r} {i} h c =
-        let e : i ≡ n = omega (arith, h, c.0) in
-        record { is = c.2 ∙ ap (pasted to b (drop a from)) e }
-
-  -- a new array of n places that is filled from a part
-  pub copied_in : (z : A) {s r : List A} {n : ℕ} → Pasted (replicate n z) 0 s n r → r ≡ take n s
+  -- all of an array, written into its places
+  pub put_all : (to from : List A) (at : ℕ) {ys : List A} → ys ≡ from → put_mid at (at + length from - at) to ys ≡ pasted to at from (length from)
   unfolding pasted
-  copied_in z {s} {r} {n} e =
-      let k : length (replicate n z) ≤ 0 + n = omega (arith, length-replicate n z) in
-      e.is ∙ ap (λ (l : List A). [] ++ take n s ++ l) (drop_of_length-le (replicate n z) {i = 0 + n} k) ∙ append-nil (take n s)
+  put_all to from at {ys} e =
+      ap (λ (y : List A). take at to ++ (y ++ drop (at + length from - at) (drop at to))) e
+      ∙ ap (λ (r : List A). take at to ++ (from ++ r)) (Post-is at (at + length from) to (omega arith))
+      ∙ sym (append_assoc (take at to) from (drop (at + length from) to))
+      ∙ ap (λ (x : List A). take at to ++ x ++ drop (at + length from) to) (sym (take_all (length from) from (omega arith)))
+
+  -- the same, where the array's length is known
+  pub put_is : {to from r : List A} {at n : ℕ} → Pasted to at from (length from) r → length from ≡ n → Pasted to at from n r
+  put_is {to} {from} {r} {at} {n} e l = record { is = e.is ∙ ap (pasted to at from) l }
 
   -- an array behind the places that are laid already
   pub laid_behind : (xs ys to : List A) (b n m : ℕ) → length xs ≡ b → length ys ≡ n → b + n ≡ m
@@ -67,7 +52,7 @@ module _ {A : Type 0} where
   pub section_last : (xs ys : List A) (i n : ℕ) → length xs ≡ i → length ys ≡ n → section i n (xs ++ ys) ≡ ys
   section_last xs ys i n h g = ap (take n) (drop_at xs ys i h) ∙ take_all n ys (omega arith)
 
-  -- several copies, one after another
+  -- several, one after another
   module _ {t r1 r2 x y : List A} {b1 n1 b2 n2 : ℕ} (e1 : Pasted t b1 x n1 r1) (e2 : Pasted r1 b2 y n2 r2) where
     pub two_pasted : r2 ≡ pasted (pasted t b1 x n1) b2 y n2
     two_pasted = e2.is ∙ ap (λ (l : List A). pasted l b2 y n2) e1.is
@@ -78,3 +63,37 @@ module _ {A : Type 0} where
 
       pub four_pasted : {r4 w : List A} {b4 n4 : ℕ} → Pasted r3 b4 w n4 r4 → r4 ≡ pasted (pasted (pasted (pasted t b1 x n1) b2 y n2) b3 z n3) b4 w n4
       four_pasted {r4} {w} {b4} {n4} e4 = e4.is ∙ ap (λ (l : List A). pasted l b4 w n4) three_pasted
+
+-- ---- an array that a closure makes, which answers h of the place and stays as it is
+
+module _ {A F : Type 0} (d : A) (g : Mut F (ℕ × Unit {0}) A) (h : ℕ → A) (n : ℕ) where
+  made_from : {f : F} (ys : List A) (i k : ℕ) → i + k ≡ n → ((j : ℕ) (r : A) (q : F) → j < n → Called g f (j, tt) r q → (q ≡ f) × (r ≡ h j))
+      → IsFromFnResultFrom g f ys i k → (j : ℕ) → i ≤ j → j < n → get_or ys j d ≡ h j
+  made_from ys i zero e w each j lo hi = absurd (omega arith)
+  made_from {f} ys i (suc k) e w (q, y, at, called, more) j lo hi =
+      let same = w i y q (omega arith) called in
+      let rest = subst (λ (p : F). IsFromFnResultFrom g p ys (i + 1) k) same.0 more in
+      elim (cases_eq j i) [
+        inl t ↦ rw t (at.1 d ∙ same.1)
+      | inr ne ↦ made_from ys (i + 1) k (omega arith) w rest j (omega arith) hi
+      ]
+
+  pub from_fn_made : {f : F} {ys : List A} → IsFromFnResult g f ys n → ((j : ℕ) (r : A) (q : F) → j < n → Called g f (j, tt) r q → (q ≡ f) × (r ≡ h j)) → ys ≡ map h (range n)
+  from_fn_made {f} {ys} made w =
+      let long : length ys ≡ n = made.long in
+      sym (rw (← long) (by_places ys d h (λ i b. sym (made_from ys 0 n (omega arith) w made.each i (omega arith) (omega arith)))))
+
+-- the closure reads the places of a list from `at` on
+module _ {A F : Type 0} (g : Mut F (ℕ × Unit {0}) A) (from : List A) (at : ℕ) where
+  pub section_made : (n : ℕ) {f : F} {ys : List A} → at + n ≤ length from → IsFromFnResult g f ys n
+      → ((j : ℕ) (r : A) (q : F) → j < n → Called g f (j, tt) r q → (q ≡ f) × (r ≡ get_or from (at + j) r)) → ys ≡ take n (drop at from)
+  section_made zero {f} {ys} h made w = none ys made.long
+    where
+      none : (l : List A) → length l ≡ 0 → l ≡ []
+      none [] e = refl
+      none (x ∷ l) e = absurd (omega arith)
+  section_made (suc n) {f} {ys} h made w =
+      let d = made.each.1 in
+      from_fn_made d g (λ j. get_or from (at + j) d) (suc n) made
+      (λ j r q b k. let p = w j r q b k in (p.0, p.1 ∙ get_or_default from (at + j) r d (omega arith)))
+      ∙ sym (drop_places from d at (suc n) h)

@@ -6,7 +6,7 @@ use Rattle.layout_record.specs.declared.VbapPanner.{VbapPanner}
 use Rattle.layout_record.specs.Malformed.{malformed_of}
 use Rattle.layout_new.specs.Layout.{new_of}
 use Rattle.session_calls.specs.declared.Session.{Session}
-use Rattle.session_calls.specs.declared.Answer.{Answer}
+use Rattle.session_calls.specs.Answers.{Answer}
 use Rattle.session_calls.specs.Session.{malformed_session}
 use Rattle.mix_block.specs.Limits.{most_sources}
 use Rattle.boundary_records.specs.Places.{most_outputs, most_imaginary, head_places, pair_byte_places, idx_places, nbr_places, dir_places, inv_places, start_places, standing_places, session_byte_places, session_float_places}

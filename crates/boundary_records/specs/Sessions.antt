@@ -1,9 +1,10 @@
 -- A session in two lent arrays, one of bytes and one of floats: docs/EMBEDDING.md. Assumes nothing.
-use Rattle.std.specs.Prelude.{ℕ, cond, List, [], ◌∷◌, ◌++◌, eqb, get_or, take, Float}
+use Rattle.std.specs.Prelude.{ℕ, cond, List, [], ◌∷◌, ◌++◌, eqb, get_or, take, Float, Result}
+use Rattle.refusals.specs.declared.Refusal.{Refusal}
+use Rattle.refusals.specs.Refusals.{number_in}
 use Rattle.session_history.specs.Calls.{place, take_back}
 use Rattle.session_calls.specs.declared.Session.{Session}
-use Rattle.session_calls.specs.declared.Answer.{Answer}
-use Rattle.session_calls.specs.Answers.{answer_of}
+use Rattle.session_calls.specs.Answers.{Answer, answer_of}
 use Rattle.mix_block.specs.Limits.{most_sources}
 use Rattle.boundary_records.specs.Places.{record_byte_places, record_float_places, counts_at, start_places, standing_at, standing_places}
 use Rattle.boundary_records.specs.Records.{record_bytes, record_floats, section, record_from}
@@ -58,3 +59,7 @@ place_take_back s i (a ∷ az) (e ∷ el) =
     let back = answer_of placed.session (take_back i) in
     let rest = place_take_back back.session i az el in
     cond (eqb placed.number 0) (cond (eqb back.number 0) rest back) placed
+
+-- what several calls answer, and the session that they leave
+abbrev pub left_beside : Result (Unit {0}) Refusal → Session → Answer
+left_beside r s = record { number = number_in r; session = s }

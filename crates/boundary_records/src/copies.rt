@@ -1,27 +1,21 @@
-// Parts of arrays, copied. A float is copied and not computed with, so that a NaN keeps its bits.
-ghost use Rattle.std.specs.Prelude.{◌+◌, ◌≤◌, length, drop};
+// Parts of arrays, copied. An element is copied and not computed with, so that a NaN keeps its bits.
+ghost use Rattle.std.specs.Prelude.{◌≡◌, ◌+◌, ◌≤◌, length, take, drop};
 ghost use Rattle.boundary_records.specs.Inner.Pasted.{Pasted};
 
-// n bytes from place a on, to place b on.
-pub fn copy_bytes(from: &[u8], a: usize, to: &mut [u8], b: usize, n: usize)
-    requires { (a + n ≤ length from.now) × (b + n ≤ length to.old) }
-    ensures { Pasted to.old b (drop a from.now) n to.new }
+use std::array;
+
+// All of `from` into the places from `at` on.
+pub fn put<T: Copy>(from: &[T], to: &mut [T], at: usize)
+    requires { at + length from.now ≤ length to.old }
+    ensures { Pasted to.old at from.now (length from.now) to.new }
 {
-    let mut i: usize = 0;
-    while i < n {
-        to[b + i] = from[a + i];
-        i += 1;
-    }
+    to[at..at + from.len()].copy_from_slice(from);
 }
 
-// The same of floats.
-pub fn copy_floats(from: &[f32], a: usize, to: &mut [f32], b: usize, n: usize)
-    requires { (a + n ≤ length from.now) × (b + n ≤ length to.old) }
-    ensures { Pasted to.old b (drop a from.now) n to.new }
+// The N elements from `at` on.
+pub fn section<T: Copy, const N: usize>(from: &[T], at: usize) -> [T; N]
+    requires { at + N ≤ length from.now }
+    ensures { result ≡ take N (drop at from.now) }
 {
-    let mut i: usize = 0;
-    while i < n {
-        to[b + i] = from[a + i];
-        i += 1;
-    }
+    array::from_fn(|i| from[at + i])
 }

@@ -5,11 +5,3 @@ pub mod copies;
 pub mod directions;
 pub mod record;
 pub mod sessions;
-
-ghost use Rattle.std.specs.Prelude.{◌≡◌, min};
-
-fn least(a: usize, b: usize) -> usize
-    ensures { result ≡ min a b }
-{
-    if a < b { a } else { b }
-}

@@ -32,7 +32,7 @@ fn to_imag(sums: &mut [f32; MAX_IMAGINARY], n: usize, p: u8, g: f32)
 {
     let p = p as usize;
     if n <= p {
-        sums[(p - n).min(LAST)] += float_order::max32(g, 0.0);
+        sums[(p - n).min(LAST)] += float_order::max(g, 0.0);
     }
 }
 

@@ -1,5 +1,5 @@
 -- `boundary_records::directions::rows` meets its contract. The loop's invariant: the rows so far and those of the directions left are all rows. Assumes nothing.
-use Prim.Native.Nat.{◌-◌, ◌≤◌, min}
+use Prim.Native.Nat.{◌≤◌}
 use mathlib.Core.Path.{◌≡◌}
 use mathlib.Core.List.{◌++◌}
 use lib.ListN.{length, take, drop}
@@ -7,8 +7,4 @@ use Rattle.boundary_records.specs.Rows.{rows_of}
 use Rattle.boundary_records.proofs.directions.rows.Given as goal
 
 abbrev pub invariant-loop-i : goal.invariant-loop-i
-invariant-loop-i l = (l.n ≤ length l.az) × (l.n ≤ length l.el) × (l.i ≤ l.n) × (l.from ≤ length l.initial.out) × (length l.out ≡ length l.initial.out)
-    × (take l.from l.out ++ rows_of l.p (drop l.i l.az) (drop l.i l.el) l.width (drop l.from l.out) ≡ rows_of l.p l.az l.el l.width l.initial.out) × (l.n ≡ min (length l.az) (length l.el))
-
-abbrev pub decreases-loop-i : goal.decreases-loop-i
-decreases-loop-i l = l.n - l.i
+invariant-loop-i l = (l.from ≤ length l.initial.out) × (take l.from l.out ++ rows_of l.p (drop l.i l.az) (drop l.i l.el) l.width (drop l.from l.out) ≡ rows_of l.p l.az l.el l.width l.initial.out)

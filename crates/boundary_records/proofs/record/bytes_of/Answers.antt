@@ -1,6 +1,7 @@
 use Prim.Native.Nat.{min}
 use mathlib.Core.Path.{◌≡◌, refl}
 use mathlib.Core.List.{flat_map}
+use lib.Ieee.{of_bits}
 use lib.ListN.{length-set}
 use Rattle.boundary_records.specs.Places.{most_outputs, pair_byte_places}
 use Rattle.boundary_records.specs.Records.{pair_bytes}
@@ -10,20 +11,17 @@ use native.Mathlib.Omega.{arith}
 use Rattle.boundary_records.proofs.record.bytes_of.Goals as goal
 
 pub loop-i-init : goal.loop-i-init
-unfolding flat_map
-loop-i-init c = (omega arith, omega arith, refl, c.well_formed.0.1.0.1, gathered_none pair_byte_places 0)
+unfolding flat_map of_bits
+loop-i-init c = (refl, gathered_none pair_byte_places 0)
 
 pub loop-i-preserved : goal.loop-i-preserved
 loop-i-preserved c = (
-  omega arith,
-  omega arith,
   simp length-set (omega arith),
-  c.loop-i.invariant.3,
-  bytes_more c.args.ps c.loop-i.to c.loop-i.i _ _ (omega arith) (omega arith) c.law_number.ensures c.loop-i.invariant.4,
+  bytes_more c.args.ps.now c.loop-i.to c.loop-i.i _ _ (omega arith) (omega arith) c.law_number.ensures c.loop-i.invariant.1,
 )
 
 pub returns : goal.returns
 unfolding pair_bytes
 returns c =
     let e : min c.args.n most_outputs ≡ c.loop-i.i = omega arith in
-    rw e c.loop-i.invariant.4.holds
+    rw e c.loop-i.invariant.1.holds

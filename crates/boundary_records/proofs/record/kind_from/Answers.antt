@@ -1,20 +1,21 @@
 -- `boundary_records::record::kind_from` meets its contract: it makes the definition's tests. Assumes nothing.
-use borrow.Author.Tests.{eq-eqb, ne_eqb}
+use native.Mathlib.Omega.{arith}
+use borrow.Author.Tests.{ne_eqb}
 use Rattle.boundary_records.specs.Records.{kind_from}
 use Rattle.boundary_records.proofs.record.kind_from.Goals as goal
 
-pub returns-then-n-eq0 : goal.returns-then-n-eq0
+pub returns-in-0 : goal.returns-in-0
 unfolding kind_from
-returns-then-n-eq0 c = rw (eq-eqb _ _ c.if-n-eq0.true)
+returns-in-0 c = rw c.in-0.is
 
-pub returns-then-n-eq1 : goal.returns-then-n-eq1
+pub returns-in-1 : goal.returns-in-1
 unfolding kind_from
-returns-then-n-eq1 c = rw (ne_eqb _ _ c.if-n-eq0.false, eq-eqb _ _ c.if-n-eq1.true)
+returns-in-1 c = rw c.in-1.is
 
-pub returns-then-n-eq2 : goal.returns-then-n-eq2
+pub returns-in-2 : goal.returns-in-2
 unfolding kind_from
-returns-then-n-eq2 c = rw (ne_eqb _ _ c.if-n-eq0.false, ne_eqb _ _ c.if-n-eq1.false, eq-eqb _ _ c.if-n-eq2.true)
+returns-in-2 c = rw c.in-2.is
 
-pub returns : goal.returns
+pub returns-in_default : goal.returns-in_default
 unfolding kind_from
-returns c = rw (ne_eqb _ _ c.if-n-eq0.false, ne_eqb _ _ c.if-n-eq1.false, ne_eqb _ _ c.if-n-eq2.false)
+returns-in_default c = rw (ne_eqb c.args.n 0 (λ e. omega arith), ne_eqb c.args.n 1 (λ e. omega arith), ne_eqb c.args.n 2 (λ e. omega arith))

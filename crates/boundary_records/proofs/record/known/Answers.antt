@@ -7,13 +7,13 @@ pub returns-then-kind-gt3 : goal.returns-then-kind-gt3
 returns-then-kind-gt3 c = sym (kind_unknown _ _ c.if-kind-gt3.true)
 
 pub loop-i-init : goal.loop-i-init
-loop-i-init c = (omega arith, kind_known _ _ c.if-kind-gt3.false ∙ laws_all _)
+loop-i-init c = kind_known _ _ c.if-kind-gt3.false ∙ laws_all _
 
 pub returns-then-bytes-i-gt1 : goal.returns-then-bytes-i-gt1
-returns-then-bytes-i-gt1 c = sym (c.loop-i.invariant.1 ∙ law_unknown _ _ c.loop-i-test.true (omega arith))
+returns-then-bytes-i-gt1 c = sym (c.loop-i.invariant ∙ law_unknown _ _ c.loop-i-test.true (omega arith))
 
 pub loop-i-preserved : goal.loop-i-preserved
-loop-i-preserved c = (omega arith, c.loop-i.invariant.1 ∙ law_known_lem _ _ c.loop-i-test.true (omega arith))
+loop-i-preserved c = c.loop-i.invariant ∙ law_known_lem _ _ c.loop-i-test.true (omega arith)
 
 pub returns : goal.returns
-returns c = sym (c.loop-i.invariant.1 ∙ laws_none _ _ c.loop-i-test.false)
+returns c = sym (c.loop-i.invariant ∙ laws_none _ _ (omega arith))

@@ -13,19 +13,16 @@ use Rattle.boundary_records.proofs.record.numbers_of.Goals as goal
 
 pub loop-i-init : goal.loop-i-init
 unfolding flat_map of_bits
-loop-i-init c = (omega arith, omega arith, refl, c.well_formed.0.1.0.1, gathered_none pair_float_places +0)
+loop-i-init c = (refl, gathered_none pair_float_places +0)
 
 pub loop-i-preserved : goal.loop-i-preserved
 loop-i-preserved c = (
-  omega arith,
-  omega arith,
   simp length-set (omega arith),
-  c.loop-i.invariant.3,
-  numbers_more c.args.ps c.loop-i.to c.loop-i.i _ _ (omega arith) (omega arith) c.law_numbers-v.ensures c.loop-i.invariant.4,
+  numbers_more c.args.ps.now c.loop-i.to c.loop-i.i _ _ (omega arith) (omega arith) c.law_numbers-v.ensures c.loop-i.invariant.1,
 )
 
 pub returns : goal.returns
 unfolding pair_numbers
 returns c =
     let e : min c.args.n most_outputs ≡ c.loop-i.i = omega arith in
-    rw e c.loop-i.invariant.4.holds
+    rw e c.loop-i.invariant.1.holds

@@ -1,20 +1,11 @@
-use mathlib.Core.Path.{refl}
-use lib.Ieee.{of_bits}
-use lib.ListN.{length-set}
-use Rattle.boundary_records.proofs.Pairs.{pairs_none, pair_made, pairs_more, pairs_all}
-use native.Mathlib.Omega.{arith}
+-- `boundary_records::record::pairs_from` meets its contract: each pair is the one that the closure makes. Assumes nothing.
+use Rattle.std.proofs.Common.{rules}
+use Rattle.layout_planar.specs.Planar.{no_pair}
+use Rattle.boundary_records.specs.Places.{most_outputs}
+use Rattle.boundary_records.specs.Records.{pair_from}
+use Rattle.boundary_records.proofs.Pasted.{from_fn_made}
 use Rattle.boundary_records.proofs.record.pairs_from.Goals as goal
-
-pub loop-i-init : goal.loop-i-init
-unfolding of_bits
-loop-i-init c = (omega arith, refl, pairs_none _ _)
-
-pub loop-i-preserved : goal.loop-i-preserved
-loop-i-preserved c =
-    let a = c.args in
-    (omega arith, simp length-set (omega arith), pairs_more a.numbers a.bytes c.loop-i.i _ c.loop-i-test.true (pair_made a.numbers a.bytes c.loop-i.i c.law_from-law.result c.law_from-law.ensures) c.loop-i.invariant.2)
 
 pub returns : goal.returns
 returns c =
-    let a = c.args in
-    pairs_all a.numbers a.bytes (omega arith) c.loop-i.invariant.2
+    from_fn_made no_pair _ (pair_from c.args.numbers.now c.args.bytes.now) most_outputs c.from_fn.ensures.items (λ i r q b k. search rules)

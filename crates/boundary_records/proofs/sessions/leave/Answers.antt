@@ -1,14 +1,21 @@
 -- `boundary_records::sessions::leave` meets its contract: it makes the definition's test. Assumes nothing.
-use mathlib.Core.Path.{refl, sym}
-use borrow.Author.Tests.{eq-eqb, ne_eqb}
+use borrow.Author.Tests.{ne_eqb}
+use Rattle.session_calls.proofs.Refusals.{refused}
 use Rattle.boundary_records.specs.Sessions.{bytes_left, floats_left}
 use Rattle.boundary_records.proofs.sessions.leave.Goals as goal
 
-pub returns-then-a-ne0 : goal.returns-then-a-ne0
-unfolding bytes_left floats_left
-returns-then-a-ne0 c = rw (ne_eqb _ _ c.if-a-ne0.true) (record { number = refl; bytes = refl; floats = refl })
+pub returns-in-Ok-clause-bytes : goal.returns-in-Ok-clause-bytes
+unfolding bytes_left
+returns-in-Ok-clause-bytes c = λ s. rw c.in-Ok.is c.hand_out_own.ensures.bytes
 
-pub returns : goal.returns
-unfolding bytes_left floats_left
-returns c =
-    rw (eq-eqb _ _ c.if-a-ne0.false) (record { number = sym c.if-a-ne0.false; bytes = c.hand_out_own.ensures.bytes; floats = c.hand_out_own.ensures.floats })
+pub returns-in-Ok-clause-floats : goal.returns-in-Ok-clause-floats
+unfolding floats_left
+returns-in-Ok-clause-floats c = λ s. rw c.in-Ok.is c.hand_out_own.ensures.floats
+
+pub returns-in-Err-clause-bytes : goal.returns-in-Err-clause-bytes
+unfolding bytes_left
+returns-in-Err-clause-bytes c = λ s. rw (c.in-Err.is, ne_eqb _ 0 (refused c.in-Err.why))
+
+pub returns-in-Err-clause-floats : goal.returns-in-Err-clause-floats
+unfolding floats_left
+returns-in-Err-clause-floats c = λ s. rw (c.in-Err.is, ne_eqb _ 0 (refused c.in-Err.why))

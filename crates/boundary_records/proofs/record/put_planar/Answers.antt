@@ -1,7 +1,0 @@
--- `boundary_records::record::put_planar` meets its contract: its copies, one after another. Assumes nothing.
-use Rattle.boundary_records.proofs.Pasted.{three_pasted}
-use borrow.Author.Rules.{rules}
-use Rattle.boundary_records.proofs.record.put_planar.Goals as goal
-
-pub returns : goal.returns
-returns c = record { to_after = three_pasted c.copy_bytes.ensures c.copy_bytes-2.ensures c.copy_bytes-3.ensures; long = (search rules, search rules, search rules) }
