@@ -1,10 +1,8 @@
 // The sums of docs/CASES.md, "Lists of calls": words of 32 bits as the digits of a number, modulo a prime.
 use layout_planar::{Law, PlanarPair};
-use layout_record::{Kind, VbapPanner};
-use test_lines::values::{Value, pattern32};
-
-// The sum of no words. Origin: docs/CASES.md.
-pub const START: u64 = 1;
+use layout_record::VbapPanner;
+use std::fmt;
+use test_lines::values::{Pattern, Value};
 
 // Origin: the least prime above 2^32, so that no two words are alike; the factor is that of rand in ISO C.
 const MODULUS: u64 = 4294967311;
@@ -22,113 +20,108 @@ pub fn word_of(v: Value) -> u64 {
     }
 }
 
-// One word more.
-pub fn plus(sum: u64, word: u64) -> u64 {
-    ((sum % MODULUS) * FACTOR + word % 0x1_0000_0000) % MODULUS
+// What counts as words of 32 bits.
+pub trait Summed {
+    fn add_to(&self, sum: &mut Sum);
 }
 
-fn plus_float(sum: u64, x: f32) -> u64 {
-    plus(sum, word_of(pattern32(x)))
+// The sum of the words so far.
+#[derive(Clone, Copy, PartialEq, Eq)]
+pub struct Sum {
+    pub value: u64,
 }
 
-pub fn plus_floats(sum: u64, s: &[f32]) -> u64 {
-    let mut r = sum;
-    let mut i: usize = 0;
-    while i < s.len() {
-        r = plus_float(r, s[i]);
-        i += 1;
+impl Sum {
+    // The sum of no words. Origin: docs/CASES.md.
+    pub fn start() -> Sum {
+        Sum { value: 1 }
     }
-    r
-}
 
-fn plus_byte(sum: u64, x: u8) -> u64 {
-    plus(sum, x as u64)
-}
-
-fn plus_bytes(sum: u64, s: &[u8]) -> u64 {
-    let mut r = sum;
-    let mut i: usize = 0;
-    while i < s.len() {
-        r = plus_byte(r, s[i]);
-        i += 1;
+    // One word more.
+    pub fn word(&mut self, word: u64) {
+        self.value = ((self.value % MODULUS) * FACTOR + word % 0x1_0000_0000) % MODULUS;
     }
-    r
+
+    pub fn add<T: Summed>(&mut self, x: &T) {
+        x.add_to(self);
+    }
+
+    pub fn all<T: Summed>(&mut self, xs: &[T]) {
+        for x in xs {
+            x.add_to(self);
+        }
+    }
+}
+
+impl Summed for u8 {
+    fn add_to(&self, sum: &mut Sum) {
+        sum.word(u64::from(*self));
+    }
+}
+
+impl Summed for f32 {
+    fn add_to(&self, sum: &mut Sum) {
+        sum.word(word_of(self.pattern()));
+    }
+}
+
+impl fmt::Display for Sum {
+    fn fmt<W: fmt::Write>(&self, f: &mut fmt::Formatter<W>) -> fmt::Result {
+        let value = self.value;
+        write!(f, "{value:x}")
+    }
 }
 
 // ---- a layout's record
 
 // Its four numbers behind a 1; the crossfade is five zeros.
-fn plus_law(sum: u64, law: Law) -> u64 {
-    match law {
-        Law::Inverse(a, b, c, d) => {
-            plus_float(plus_float(plus_float(plus_float(plus(sum, 1), a), b), c), d)
+impl Summed for Law {
+    fn add_to(&self, sum: &mut Sum) {
+        match *self {
+            Law::Inverse(a, b, c, d) => {
+                sum.word(1);
+                sum.all(&[a, b, c, d]);
+            }
+            Law::Crossfade => sum.all(&[0u8; 5]),
         }
-        Law::Crossfade => plus_float(
-            plus_float(plus_float(plus_float(plus(sum, 0), 0.0), 0.0), 0.0),
-            0.0,
-        ),
     }
 }
 
-fn plus_pair(sum: u64, p: PlanarPair) -> u64 {
-    let angles = plus_float(plus_float(sum, p.start), p.gap);
-    let slots = plus_byte(plus_byte(angles, p.a), p.b);
-    let law = p.law;
-    plus_law(slots, law)
-}
-
-fn plus_pairs(sum: u64, pairs: [PlanarPair; 40]) -> u64 {
-    let mut r = sum;
-    let mut i: usize = 0;
-    while i < 40 {
-        let p = pairs[i];
-        r = plus_pair(r, p);
-        i += 1;
-    }
-    r
-}
-
-fn kind_number(k: Kind) -> u64 {
-    match k {
-        Kind::Silent => 0,
-        Kind::Mono => 1,
-        Kind::Planar => 2,
-        Kind::Hull => 3,
+impl Summed for PlanarPair {
+    fn add_to(&self, sum: &mut Sum) {
+        sum.add(&self.start);
+        sum.add(&self.gap);
+        sum.add(&self.a);
+        sum.add(&self.b);
+        sum.add(&self.law);
     }
 }
 
-// The sum of all but the hull's fields.
-fn flat_sum(p: VbapPanner) -> u64 {
-    let kind = p.kind;
-    let pairs = p.pairs;
-    let slots = p.slots;
-    let outputs = plus_byte(START, p.num_outputs);
-    let mono = plus_byte(plus(outputs, kind_number(kind)), p.mono);
-    let ring = plus_pairs(plus_byte(mono, p.num_pairs), pairs);
-    plus_bytes(plus_byte(ring, p.num_slots), &slots)
+// Every field of a record, in the record's order, used or not.
+impl Summed for VbapPanner {
+    fn add_to(&self, sum: &mut Sum) {
+        sum.add(&self.num_outputs);
+        sum.add(&(self.kind as u8));
+        sum.add(&self.mono);
+        sum.add(&self.num_pairs);
+        sum.all(&self.pairs);
+        sum.add(&self.num_slots);
+        sum.all(&self.slots);
+        sum.add(&self.num_real);
+        sum.all(&self.pt_out);
+        sum.all(&self.pt_dir);
+        sum.add(&self.num_tris);
+        sum.all(&self.idx);
+        sum.all(&self.inv);
+        sum.add(&self.num_imag);
+        sum.all(&self.num_nbrs);
+        sum.all(&self.imag_nbrs);
+    }
 }
 
-// The real points and the triplets.
-fn plus_hull(sum: u64, p: VbapPanner) -> u64 {
-    let pt_out = p.pt_out;
-    let pt_dir = p.pt_dir;
-    let idx = p.idx;
-    let inv = p.inv;
-    let slots = plus_bytes(plus_byte(sum, p.num_real), &pt_out);
-    let points = plus_floats(slots, &pt_dir);
-    let corners = plus_bytes(plus_byte(points, p.num_tris), &idx);
-    plus_floats(corners, &inv)
-}
-
-// The imaginary points.
-fn plus_imaginary(sum: u64, p: VbapPanner) -> u64 {
-    let num_nbrs = p.num_nbrs;
-    let imag_nbrs = p.imag_nbrs;
-    let counts = plus_bytes(plus_byte(sum, p.num_imag), &num_nbrs);
-    plus_bytes(counts, &imag_nbrs)
-}
-
-// The sum of every field of a record, in the record's order, used or not.
-pub fn record_sum(p: VbapPanner) -> u64 {
-    plus_imaginary(plus_hull(flat_sum(p), p), p)
+// The sum of a record.
+pub fn record_sum(p: &VbapPanner) -> Sum {
+    let mut sum = Sum::start();
+    sum.add(p);
+    sum
 }

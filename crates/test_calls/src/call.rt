@@ -1,243 +1,167 @@
-// One call of a list: its words, the call itself, and what it answered.
-ghost use Rattle.std.specs.Prelude.{◌≤◌, length};
-
-use crate::Outcome;
-use crate::given::{read_open, read_session};
+// The calls of lists: the words of each, the call itself, and what it answered.
+use crate::ending::check_end;
+use crate::given;
+use crate::report::Difference;
 use session_calls::{Answer, Session};
-use test_call_words::draws::fill;
-use test_call_words::sums::{plus, plus_floats};
-use test_record_words::words::{Walk, at_end, read_float, read_whole};
+use test_call_words::draws::Draws;
+use test_call_words::sums::Sum;
+use test_lines::{Malformed, Words};
 
-// How a call came out, the session after it, the sum of the answers so far, and its number; 12 where no call was made.
+// The list at hand.
 #[derive(Clone, Copy)]
-pub struct Called {
-    pub outcome: Outcome,
-    pub session: Session,
-    pub sum: u64,
-    pub number: u32,
+pub struct Calls {
+    session: Session,
+    // of what the calls of the list answered, where a list has begun
+    sum: Option<Sum>,
+    // how often each number was answered, in all lists
+    pub numbers: [u64; 12],
 }
 
 // The number that a line ends with.
-#[derive(Clone, Copy)]
-struct Told {
-    number: u64,
-    good: bool,
+fn told(words: &mut Words<'_>) -> Result<u64, Malformed> {
+    let number = words.read()?;
+    words.end()?;
+    Ok(number)
 }
 
-// No call is made where the words are not as they have to be. Origin of 12: above every number of document 01.
-pub fn no_call(s: Session, sum: u64) -> Called {
-    Called {
-        outcome: Outcome::Malformed,
-        session: s,
-        sum,
-        number: 12,
+fn check_number(got: u32, told: u64) -> Result<(), Difference> {
+    if u64::from(got) == told {
+        return Ok(());
     }
+    Err(Difference::Number(got))
 }
 
-fn wide(x: u32) -> u64 {
-    x as u64
-}
-
-fn read_told(line: &[u8], w: Walk) -> Told {
-    let x = read_whole(line, w);
-    let walk = x.walk;
-    let ended = at_end(line, walk);
-    Told {
-        number: x.value,
-        good: ended.good,
+impl Calls {
+    // No list has begun.
+    pub fn none() -> Calls {
+        let opened = session_open::open(&[], &[], 0);
+        Calls {
+            session: opened.session,
+            sum: None,
+            numbers: [0; 12],
+        }
     }
-}
 
-fn number_outcome(got: u32, told: u64) -> Outcome {
-    if wide(got) != told {
-        return Outcome::Number(got);
+    pub fn is_begun(&self) -> bool {
+        self.sum.is_some()
     }
-    Outcome::Same
-}
 
-fn answered(a: Answer, told: u64, sum: u64) -> Called {
-    let session = a.session;
-    let outcome = number_outcome(a.number, told);
-    Called {
-        outcome,
-        session,
-        sum: plus(sum, wide(a.number)),
-        number: a.number,
+    // The sum so far, of a list that this line may begin.
+    fn begun(&mut self) -> Sum {
+        let sum = self.sum.unwrap_or(Sum::start());
+        self.sum = Some(sum);
+        sum
     }
-}
 
-// ---- the session is set
+    // The sum so far, of a list that has begun.
+    fn listed(&self) -> Result<Sum, Malformed> {
+        self.sum.ok_or(Malformed)
+    }
 
-fn open_outcome(got: u32, told: u64, imaginary: usize, told_imaginary: u64) -> Outcome {
-    if wide(got) != told {
-        return Outcome::Number(got);
+    // Counts a number that was answered, and adds it to a sum.
+    fn count(&mut self, sum: &mut Sum, number: u32) {
+        sum.word(u64::from(number));
+        if let Some(count) = self.numbers.get_mut(number as usize) {
+            *count = count.wrapping_add(1);
+        }
     }
-    if imaginary as u64 != told_imaginary {
-        return Outcome::Imaginary(imaginary);
-    }
-    Outcome::Same
-}
 
-pub fn open(line: &[u8], w: Walk, s: Session, sum: u64) -> Called {
-    let r = read_open(line, w);
-    let opened = r.opened;
-    let after_sources = r.walk;
-    let number = read_whole(line, after_sources);
-    let after_number = number.walk;
-    let told = read_told(line, after_number);
-    if !told.good {
-        return no_call(s, sum);
+    // After a call that answers a session, with the number that the line says.
+    fn answered(&mut self, a: Answer, told: u64) -> Result<(), Difference> {
+        let mut sum = self.listed()?;
+        self.count(&mut sum, a.number);
+        self.sum = Some(sum);
+        self.session = a.session;
+        check_number(a.number, told)
     }
-    let session = opened.session;
-    let outcome = open_outcome(opened.number, number.value, opened.imaginary, told.number);
-    let after = plus(sum, wide(opened.number));
-    Called {
-        outcome,
-        session,
-        sum: plus(after, opened.imaginary as u64),
-        number: opened.number,
-    }
-}
 
-// A session made by hand is taken as it stands: there is no call.
-pub fn give(line: &[u8], w: Walk, s: Session, sum: u64) -> Called {
-    let r = read_session(line, w);
-    let session = r.session;
-    let walk = r.walk;
-    let ended = at_end(line, walk);
-    if !ended.good {
-        return no_call(s, sum);
-    }
-    Called {
-        outcome: Outcome::Same,
-        session,
-        sum,
-        number: 12,
-    }
-}
+    // ---- the session is set
 
-// ---- calls on it
-
-pub fn place(line: &[u8], w: Walk, s: Session, sum: u64) -> Called {
-    let source = read_whole(line, w);
-    let after_source = source.walk;
-    let az = read_float(line, after_source);
-    let after_az = az.walk;
-    let el = read_float(line, after_az);
-    let after_el = el.walk;
-    let told = read_told(line, after_el);
-    if !told.good {
-        return no_call(s, sum);
+    pub fn open(&mut self, words: &mut Words<'_>) -> Result<(), Difference> {
+        let mut sum = self.begun();
+        let mut positions = [0.0f32; 255];
+        let mut lfe = [0usize; 64];
+        let positions = words.list(&mut positions)?;
+        let lfe = words.list(&mut lfe)?;
+        let sources = words.read()?;
+        let number: u64 = words.read()?;
+        let imaginary = told(words)?;
+        let opened = session_open::open(positions, lfe, sources);
+        self.count(&mut sum, opened.number);
+        sum.word(opened.imaginary as u64);
+        self.sum = Some(sum);
+        self.session = opened.session;
+        check_number(opened.number, number)?;
+        if opened.imaginary as u64 != imaginary {
+            return Err(Difference::Imaginary(opened.imaginary));
+        }
+        Ok(())
     }
-    let a = session_calls::place(s, source.value as usize, az.value, el.value);
-    answered(a, told.number, sum)
-}
 
-pub fn take_back(line: &[u8], w: Walk, s: Session, sum: u64) -> Called {
-    let source = read_whole(line, w);
-    let after_source = source.walk;
-    let told = read_told(line, after_source);
-    if !told.good {
-        return no_call(s, sum);
+    // A session made by hand is taken as it stands: there is no call.
+    pub fn give(&mut self, words: &mut Words<'_>) -> Result<(), Difference> {
+        let _ = self.begun();
+        let session = given::session(words)?;
+        words.end()?;
+        self.session = session;
+        Ok(())
     }
-    let a = session_calls::take_back(s, source.value as usize);
-    answered(a, told.number, sum)
-}
 
-pub fn settle(line: &[u8], w: Walk, s: Session, sum: u64) -> Called {
-    let source = read_whole(line, w);
-    let after_source = source.walk;
-    let told = read_told(line, after_source);
-    if !told.good {
-        return no_call(s, sum);
+    // ---- calls on it
+
+    pub fn place(&mut self, words: &mut Words<'_>) -> Result<(), Difference> {
+        let source = words.read()?;
+        let az = words.read()?;
+        let el = words.read()?;
+        let told = told(words)?;
+        let _ = self.listed()?;
+        self.answered(session_calls::place(self.session, source, az, el), told)
     }
-    let a = session_calls::settle(s, source.value as usize);
-    answered(a, told.number, sum)
-}
 
-// ---- render
-
-// The words of a render.
-#[derive(Clone, Copy)]
-struct Block {
-    length: usize,
-    samples: usize,
-    outputs: usize,
-    seed: u64,
-    told: u64,
-    good: bool,
-}
-
-fn read_block(line: &[u8], w: Walk) -> Block {
-    let block = read_whole(line, w);
-    let after_block = block.walk;
-    let n = read_whole(line, after_block);
-    let after_n = n.walk;
-    let m = read_whole(line, after_n);
-    let after_m = m.walk;
-    let seed = read_whole(line, after_m);
-    let after_seed = seed.walk;
-    let told = read_told(line, after_seed);
-    Block {
-        length: block.value as usize,
-        samples: n.value as usize,
-        outputs: m.value as usize,
-        seed: seed.value,
-        told: told.number,
-        good: told.good,
+    pub fn take_back(&mut self, words: &mut Words<'_>) -> Result<(), Difference> {
+        let source = words.read()?;
+        let told = told(words)?;
+        let _ = self.listed()?;
+        self.answered(session_calls::take_back(self.session, source), told)
     }
-}
 
-// `render` with two buffers of draws, all of each: the session after it, and its number and the output buffer in the sum.
-fn rendered(b: Block, samples: &mut [f32], outputs: &mut [f32], s: Session, sum: u64) -> Called {
-    let last = fill(samples, b.seed, b.seed);
-    fill(outputs, last, b.seed);
-    let a = session_render::render(s, b.length, &*samples, outputs);
-    let c = answered(a, b.told, sum);
-    let outcome = c.outcome;
-    let session = c.session;
-    Called {
-        outcome,
-        session,
-        sum: plus_floats(c.sum, &*outputs),
-        number: c.number,
+    pub fn settle(&mut self, words: &mut Words<'_>) -> Result<(), Difference> {
+        let source = words.read()?;
+        let told = told(words)?;
+        let _ = self.listed()?;
+        self.answered(session_calls::settle(self.session, source), told)
     }
-}
 
-fn rendered_parts(
-    b: Block,
-    n: usize,
-    m: usize,
-    samples: &mut [f32],
-    outputs: &mut [f32],
-    s: Session,
-    sum: u64,
-) -> Called
-    requires { (n ≤ length samples.old) × (m ≤ length outputs.old) }
-{
-    rendered(b, &mut samples[..n], &mut outputs[..m], s, sum)
-}
+    // With draws in two lent buffers, all that the line asks for. Every float of the output buffer counts in the sum.
+    pub fn render(
+        &mut self,
+        words: &mut Words<'_>,
+        samples: &mut [f32],
+        outputs: &mut [f32],
+    ) -> Result<(), Difference> {
+        let block = words.read()?;
+        let n = words.up_to(samples.len())?;
+        let m = words.up_to(outputs.len())?;
+        let seed = words.read()?;
+        let told = told(words)?;
+        let _ = self.listed()?;
+        let samples = &mut samples[..n];
+        let outputs = &mut outputs[..m];
+        let mut draws = Draws::from_seed(seed);
+        draws.fill(samples);
+        draws.fill(outputs);
+        let a = session_render::render(self.session, block, samples, outputs);
+        let outcome = self.answered(a, told);
+        if let Some(sum) = &mut self.sum {
+            sum.all(outputs);
+        }
+        outcome
+    }
 
-// No buffer of a line is longer than those that are lent.
-pub fn render(
-    line: &[u8],
-    w: Walk,
-    samples: &mut [f32],
-    outputs: &mut [f32],
-    s: Session,
-    sum: u64,
-) -> Called {
-    let b = read_block(line, w);
-    let n = b.samples;
-    let m = b.outputs;
-    if !b.good {
-        return no_call(s, sum);
+    // The end of a list.
+    pub fn end(&mut self, words: &mut Words<'_>) -> Result<(), Difference> {
+        let sum = self.listed()?;
+        self.sum = None;
+        check_end(words, &self.session, sum)
     }
-    if n > samples.len() {
-        return no_call(s, sum);
-    }
-    if m > outputs.len() {
-        return no_call(s, sum);
-    }
-    rendered_parts(b, n, m, samples, outputs, s, sum)
 }

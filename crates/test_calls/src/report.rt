@@ -1,81 +1,90 @@
-// What a replay writes to standard output.
-use crate::Outcome;
-use test_lines::report::{count_row, heading, print_hex, write_all, write_number, write_place};
+// The names of lines, how a line differs, and what the lists of a replay come to.
+use std::{fmt, io};
+use test_call_words::sums::Sum;
+use test_lines::Malformed;
+use test_lines::report::{Differences, count_row};
+use test_lines::values::Shown;
 
-fn write_sum(out: &impl Print, what: &[u8], got: u64) {
-    write_all(out, what);
-    print_hex(out, got, 1);
+#[derive(Clone, Copy)]
+pub enum Name {
+    Open,
+    Session,
+    Place,
+    TakeBack,
+    Settle,
+    Render,
+    End,
 }
 
-fn write_count(out: &impl Print, place: usize, got: u8) {
-    write_number(out, b" count ", place as u64);
-    write_number(out, b" got ", got as u64);
+pub const NAMES: [(&str, Name); 7] = [
+    ("open", Name::Open),
+    ("session", Name::Session),
+    ("place", Name::Place),
+    ("take_back", Name::TakeBack),
+    ("settle", Name::Settle),
+    ("render", Name::Render),
+    ("end", Name::End),
+];
+
+// Where a line differs first, what was answered, and at which place.
+#[derive(Clone, Copy)]
+pub enum Difference {
+    Number(u32),
+    Imaginary(usize),
+    Answers(Sum),
+    Record(Sum),
+    Sources(u8),
+    Count(usize, u8),
+    Standing(usize, Shown),
+    Start(usize, Shown),
+    Malformed,
 }
 
-fn write_outcome(out: &impl Print, outcome: Outcome) {
-    match outcome {
-        Outcome::Same => {}
-        Outcome::Number(got) => write_number(out, b" got number ", got as u64),
-        Outcome::Imaginary(got) => write_number(out, b" got imaginary ", got as u64),
-        Outcome::Answers(got) => write_sum(out, b" got sum of answers ", got),
-        Outcome::Record(got) => write_sum(out, b" got sum of record ", got),
-        Outcome::Sources(got) => write_number(out, b" got sources ", got as u64),
-        Outcome::Count(place, got) => write_count(out, place, got),
-        Outcome::Standing(place, got) => write_place(out, b" standing ", place, got),
-        Outcome::Start(place, got) => write_place(out, b" start ", place, got),
-        Outcome::Malformed => {
-            write_all(out, b" malformed");
+impl From<Malformed> for Difference {
+    fn from(_: Malformed) -> Difference {
+        Difference::Malformed
+    }
+}
+
+impl fmt::Display for Difference {
+    fn fmt<W: fmt::Write>(&self, f: &mut fmt::Formatter<W>) -> fmt::Result {
+        match self {
+            Difference::Number(got) => write!(f, " got number {got}"),
+            Difference::Imaginary(got) => write!(f, " got imaginary {got}"),
+            Difference::Answers(got) => write!(f, " got sum of answers {got}"),
+            Difference::Record(got) => write!(f, " got sum of record {got}"),
+            Difference::Sources(got) => write!(f, " got sources {got}"),
+            Difference::Count(place, got) => write!(f, " count {place} got {got}"),
+            Difference::Standing(place, got) => write!(f, " standing {place} got {got}"),
+            Difference::Start(place, got) => write!(f, " start {place} got {got}"),
+            Difference::Malformed => f.write_str(" malformed"),
         }
     }
 }
 
-// The line, and what was answered where it first differs.
-pub fn differs(out: &impl Print, line: &[u8], number: u64, outcome: Outcome) {
-    heading(out, line, number);
-    write_outcome(out, outcome);
-    write_all(out, b"\n");
-}
-
-fn number_row(out: &impl Print, number: usize, count: u64) {
-    write_number(out, b"number ", number as u64);
-    count_row(out, b":", count);
-}
-
-// How often each number was answered.
-fn write_numbers(out: &impl Print, numbers: &[u64; 12]) {
-    let mut i: usize = 0;
-    while i < 12 {
-        number_row(out, i, numbers[i]);
-        i += 1;
-    }
-}
-
-fn sum(counts: &[u64; 7]) -> u64 {
-    let opens = std::num::wrapping_add_u64(counts[0], counts[2]);
-    let changes = std::num::wrapping_add_u64(counts[3], counts[4]);
-    let both = std::num::wrapping_add_u64(opens, changes);
-    std::num::wrapping_add_u64(both, counts[5])
-}
-
-pub fn totals<'a>(
+// How many lines there were of each name, how often each number was answered, and how many calls, lists and lines that differ there were.
+pub fn totals(
     out: &impl Print,
-    counts: &'a [u64; 7],
-    numbers: &'a [u64; 12],
-    differences: u64,
-) {
-    count_row(out, b"open", counts[0]);
-    count_row(out, b"session", counts[1]);
-    count_row(out, b"place", counts[2]);
-    count_row(out, b"take_back", counts[3]);
-    count_row(out, b"settle", counts[4]);
-    count_row(out, b"render", counts[5]);
-    write_numbers(out, numbers);
-    count_row(out, b"calls", sum(counts));
-    count_row(out, b"lists", counts[6]);
-    count_row(out, b"differences", differences);
-}
-
-// What stands between the two reports.
-pub fn faults(out: &impl Print) {
-    write_all(out, b"faults, each of which has to be found:\n");
+    counts: &[u64; 7],
+    numbers: &[u64; 12],
+    differences: Differences,
+) -> io::Result<()> {
+    let mut calls: u64 = 0;
+    for (text, name) in NAMES {
+        let count = counts[name as usize];
+        match name {
+            Name::End => {}
+            Name::Session => count_row(out, text, count)?,
+            _ => {
+                count_row(out, text, count)?;
+                calls = calls.wrapping_add(count);
+            }
+        }
+    }
+    for (number, count) in numbers.iter().enumerate() {
+        println!(out; "number {number}: {count}")?;
+    }
+    count_row(out, "calls", calls)?;
+    count_row(out, "lists", counts[Name::End as usize])?;
+    count_row(out, "differences", differences.count)
 }

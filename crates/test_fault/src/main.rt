@@ -1,6 +1,8 @@
 // Replays a list with one wrong expectation and one malformed line, which both have to be found.
 #![tactic(auto)]
 
-fn main(rt: HostRuntime) {
-    test_floats::run(&rt);
+use std::io;
+
+fn main(rt: HostRuntime) -> io::Result<()> {
+    test_floats::run(&rt)
 }

@@ -1,128 +1,153 @@
-// The functions that a case may name, by their place in the list of names, and what each takes and gives.
-use test_lines::values::{Form, Value, double, pattern32, pattern64, single};
+// The functions that a case may name, and what each takes and answers.
+use crate::Difference;
+use test_lines::Words;
+use test_lines::values::{Answer, Given, Shown};
 
-// How many names the list has. Origin: docs/CASES.md, "Functions of the numbers".
+#[derive(Clone, Copy)]
+pub enum Function {
+    Sqrt32,
+    Clamp,
+    Abs32,
+    Powi4,
+    Sin32,
+    Cos32,
+    IsFinite32,
+    SignBit32,
+    Widen,
+    SinCos32,
+    Max32,
+    Min32,
+    RemEuclid32,
+    Sqrt64,
+    Abs64,
+    Sin64,
+    Cos64,
+    Atan64,
+    IsFinite64,
+    SignBit64,
+    Narrow,
+    SinCos64,
+    Max64,
+    RemEuclid64,
+    Atan2,
+    F32FromU64,
+    F64FromU64,
+}
+
+// How many functions there are. Origin: docs/CASES.md, "Functions of the numbers".
 pub const COUNT: usize = 27;
 
-// One or two arguments of one form, and one or two results of another.
-#[derive(Clone, Copy)]
-pub struct Shape {
-    pub args: usize,
-    pub from: Form,
-    pub results: usize,
-    pub to: Form,
-}
+// Each function beside its name, in the order of the counts that are written.
+pub const NAMES: [(&str, Function); COUNT] = [
+    ("sqrt32", Function::Sqrt32),
+    ("clamp", Function::Clamp),
+    ("abs32", Function::Abs32),
+    ("powi4", Function::Powi4),
+    ("sin32", Function::Sin32),
+    ("cos32", Function::Cos32),
+    ("is_finite32", Function::IsFinite32),
+    ("sign_bit32", Function::SignBit32),
+    ("widen", Function::Widen),
+    ("sin_cos32", Function::SinCos32),
+    ("max32", Function::Max32),
+    ("min32", Function::Min32),
+    ("rem_euclid32", Function::RemEuclid32),
+    ("sqrt64", Function::Sqrt64),
+    ("abs64", Function::Abs64),
+    ("sin64", Function::Sin64),
+    ("cos64", Function::Cos64),
+    ("atan64", Function::Atan64),
+    ("is_finite64", Function::IsFinite64),
+    ("sign_bit64", Function::SignBit64),
+    ("narrow", Function::Narrow),
+    ("sin_cos64", Function::SinCos64),
+    ("max64", Function::Max64),
+    ("rem_euclid64", Function::RemEuclid64),
+    ("atan2", Function::Atan2),
+    ("f32_from_u64", Function::F32FromU64),
+    ("f64_from_u64", Function::F64FromU64),
+];
 
-// What a function answered; a second result that it does not have is 0.
-#[derive(Clone, Copy)]
-pub struct Answer {
-    pub first: Value,
-    pub second: Value,
-}
-
-fn shaped(args: usize, from: Form, results: usize, to: Form) -> Shape {
-    Shape {
-        args,
-        from,
-        results,
-        to,
+// An answer against the last word of a line.
+fn compare<R: Answer>(words: &mut Words<'_>, got: R) -> Result<(), Difference> {
+    let is_same = words.says(got)?;
+    words.end()?;
+    if is_same {
+        return Ok(());
     }
+    Err(Difference::Answer(Shown::of(got)))
 }
 
-// The places are those of `names` in lib.rt.
-pub fn shape_of(place: usize) -> Shape {
-    match place {
-        0..=5 => shaped(1, Form::Single, 1, Form::Single),
-        6..=7 => shaped(1, Form::Single, 1, Form::Truth),
-        8 => shaped(1, Form::Single, 1, Form::Double),
-        9 => shaped(1, Form::Single, 2, Form::Single),
-        10..=12 => shaped(2, Form::Single, 1, Form::Single),
-        13..=17 => shaped(1, Form::Double, 1, Form::Double),
-        18..=19 => shaped(1, Form::Double, 1, Form::Truth),
-        20 => shaped(1, Form::Double, 1, Form::Single),
-        21 => shaped(1, Form::Double, 2, Form::Double),
-        22..=24 => shaped(2, Form::Double, 1, Form::Double),
-        25 => shaped(1, Form::Whole, 1, Form::Single),
-        _ => shaped(1, Form::Whole, 1, Form::Double),
+// One argument and one answer.
+fn one<A: Given, R: Answer, F: Fn(A) -> R>(words: &mut Words<'_>, f: F) -> Result<(), Difference>
+    requires { F.IsAlwaysCallable f }
+{
+    let x = words.read()?;
+    compare(words, f(x))
+}
+
+// Two arguments and one answer.
+fn two<A: Given, R: Answer, F: Fn(A, A) -> R>(words: &mut Words<'_>, f: F) -> Result<(), Difference>
+    requires { F.IsAlwaysCallable f }
+{
+    let x = words.read()?;
+    let y = words.read()?;
+    compare(words, f(x, y))
+}
+
+// One argument and two answers.
+fn both<A: Given + Answer, F: Fn(A) -> (A, A)>(
+    words: &mut Words<'_>,
+    f: F,
+) -> Result<(), Difference>
+    requires { F.IsAlwaysCallable f }
+{
+    let x = words.read()?;
+    let (first, second) = f(x);
+    let is_first = words.says(first)?;
+    let is_second = words.says(second)?;
+    words.end()?;
+    if is_first && is_second {
+        return Ok(());
     }
+    Err(Difference::Answers(Shown::of(first), Shown::of(second)))
 }
 
-fn one(first: Value) -> Answer {
-    Answer {
-        first,
-        second: Value::Bits(0),
-    }
-}
-
-fn truth(is: bool) -> Value {
-    if is { Value::Bits(1) } else { Value::Bits(0) }
-}
-
-fn of_single(place: usize, x: f32) -> Answer {
-    match place {
-        0 => one(pattern32(float_root::sqrt32(x))),
-        1 => one(pattern32(float_order::clamp(x))),
-        2 => one(pattern32(float_order::abs(x))),
-        3 => one(pattern32(float_order::powi4(x))),
-        4 => one(pattern32(float_sine::sin32(x))),
-        5 => one(pattern32(float_sine::cos32(x))),
-        6 => one(truth(float_order::is_finite(x))),
-        7 => one(truth(float_order::sign_bit(x))),
-        8 => one(pattern64(float_widths::widen(x))),
-        _ => {
+// A function on the arguments of a line, against the answers that it says.
+pub fn check(function: Function, words: &mut Words<'_>) -> Result<(), Difference> {
+    match function {
+        Function::Sqrt32 => one(words, |x: f32| float_root::sqrt32(x)),
+        Function::Clamp => one(words, |x: f32| float_order::clamp(x)),
+        Function::Abs32 => one(words, |x: f32| float_order::abs32(x)),
+        Function::Powi4 => one(words, |x: f32| float_order::powi4(x)),
+        Function::Sin32 => one(words, |x: f32| float_sine::sin32(x)),
+        Function::Cos32 => one(words, |x: f32| float_sine::cos32(x)),
+        Function::IsFinite32 => one(words, |x: f32| float_order::is_finite32(x)),
+        Function::SignBit32 => one(words, |x: f32| float_order::sign_bit32(x)),
+        Function::Widen => one(words, |x: f32| float_widths::widen(x)),
+        Function::SinCos32 => both(words, |x: f32| {
             let r = float_sine::sin_cos32(x);
-            Answer {
-                first: pattern32(r.sin),
-                second: pattern32(r.cos),
-            }
-        }
-    }
-}
-
-fn of_singles(place: usize, x: f32, y: f32) -> Answer {
-    match place {
-        10 => one(pattern32(float_order::max(x, y))),
-        11 => one(pattern32(float_order::min32(x, y))),
-        _ => one(pattern32(float_order::rem_euclid(x, y))),
-    }
-}
-
-fn of_double(place: usize, x: f64) -> Answer {
-    match place {
-        13 => one(pattern64(float_root::sqrt64(x))),
-        14 => one(pattern64(float_order::abs(x))),
-        15 => one(pattern64(float_sine::sin(x))),
-        16 => one(pattern64(float_sine::cos(x))),
-        17 => one(pattern64(float_arctangent::atan(x))),
-        18 => one(truth(float_order::is_finite(x))),
-        19 => one(truth(float_order::sign_bit(x))),
-        20 => one(pattern32(float_widths::narrow(x))),
-        _ => {
+            (r.sin, r.cos)
+        }),
+        Function::Max32 => two(words, |x: f32, y: f32| float_order::max32(x, y)),
+        Function::Min32 => two(words, |x: f32, y: f32| float_order::min32(x, y)),
+        Function::RemEuclid32 => two(words, |x: f32, m: f32| float_order::rem_euclid32(x, m)),
+        Function::Sqrt64 => one(words, |x: f64| float_root::sqrt64(x)),
+        Function::Abs64 => one(words, |x: f64| float_order::abs64(x)),
+        Function::Sin64 => one(words, |x: f64| float_sine::sin(x)),
+        Function::Cos64 => one(words, |x: f64| float_sine::cos(x)),
+        Function::Atan64 => one(words, |x: f64| float_arctangent::atan(x)),
+        Function::IsFinite64 => one(words, |x: f64| float_order::is_finite64(x)),
+        Function::SignBit64 => one(words, |x: f64| float_order::sign_bit64(x)),
+        Function::Narrow => one(words, |x: f64| float_widths::narrow(x)),
+        Function::SinCos64 => both(words, |x: f64| {
             let r = float_sine::sin_cos(x);
-            Answer {
-                first: pattern64(r.sin),
-                second: pattern64(r.cos),
-            }
-        }
-    }
-}
-
-fn of_doubles(place: usize, x: f64, y: f64) -> Answer {
-    match place {
-        22 => one(pattern64(float_order::max(x, y))),
-        23 => one(pattern64(float_order::rem_euclid(x, y))),
-        _ => one(pattern64(float_arctangent::atan2(x, y))),
-    }
-}
-
-// What the function at a place answers on arguments given by their bits.
-pub fn compute(place: usize, a: u64, b: u64) -> Answer {
-    match place {
-        0..=9 => of_single(place, single(a)),
-        10..=12 => of_singles(place, single(a), single(b)),
-        13..=21 => of_double(place, double(a)),
-        22..=24 => of_doubles(place, double(a), double(b)),
-        25 => one(pattern32(float_widths::f32_from_u64(a))),
-        _ => one(pattern64(float_widths::f64_from_u64(a))),
+            (r.sin, r.cos)
+        }),
+        Function::Max64 => two(words, |x: f64, y: f64| float_order::max64(x, y)),
+        Function::RemEuclid64 => two(words, |x: f64, m: f64| float_order::rem_euclid64(x, m)),
+        Function::Atan2 => two(words, |y: f64, x: f64| float_arctangent::atan2(y, x)),
+        Function::F32FromU64 => one(words, |n: u64| float_widths::f32_from_u64(n)),
+        Function::F64FromU64 => one(words, |n: u64| float_widths::f64_from_u64(n)),
     }
 }

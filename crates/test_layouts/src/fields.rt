@@ -1,93 +1,164 @@
-// What `layout_new::new` answers, field by field: a number for each, and its name for people.
-// Origin of the numbers: counted from 0, in the order of a line (docs/CASES.md); they only tell the fields apart.
-use test_lines::report::write_all;
+// What `layout_new::new` answers, field by field, compared with a line word by word, up to the first field that differs. A place that is not used has no
+// word: it has to hold 0 or +0.
+use layout_new::NewPanner;
+use layout_planar::{Law, PlanarPair};
+use layout_record::VbapPanner;
+use std::fmt;
+use test_lines::values::{Answer, Value};
+use test_lines::{Malformed, Words};
 
-pub const NONE: u32 = 0;
+// How a line differs: the name of the first field that does.
+#[derive(Clone, Copy)]
+pub enum Difference {
+    At(&'static str),
+    Malformed,
+}
 
-pub const MALFORMED: u32 = 1;
-
-pub const NUMBER: u32 = 2;
-
-pub const IMAGINARY: u32 = 3;
-
-pub const NUM_OUTPUTS: u32 = 4;
-
-pub const KIND: u32 = 5;
-
-pub const MONO: u32 = 6;
-
-pub const NUM_PAIRS: u32 = 7;
-
-pub const START: u32 = 8;
-
-pub const GAP: u32 = 9;
-
-pub const A: u32 = 10;
-
-pub const B: u32 = 11;
-
-pub const LAW: u32 = 12;
-
-pub const NUM_SLOTS: u32 = 13;
-
-pub const SLOTS: u32 = 14;
-
-pub const NUM_REAL: u32 = 15;
-
-pub const PT_OUT: u32 = 16;
-
-pub const PT_DIR: u32 = 17;
-
-pub const NUM_TRIS: u32 = 18;
-
-pub const IDX: u32 = 19;
-
-pub const INV: u32 = 20;
-
-pub const NUM_IMAG: u32 = 21;
-
-pub const NUM_NBRS: u32 = 22;
-
-pub const IMAG_NBRS: u32 = 23;
-
-// The name of a field before the hull's.
-fn write_early(out: &impl Print, field: u32) -> bool {
-    match field {
-        1 => write_all(out, b"malformed"),
-        2 => write_all(out, b"number"),
-        3 => write_all(out, b"imaginary"),
-        4 => write_all(out, b"num_outputs"),
-        5 => write_all(out, b"kind"),
-        6 => write_all(out, b"mono"),
-        7 => write_all(out, b"num_pairs"),
-        8 => write_all(out, b"pairs.start"),
-        9 => write_all(out, b"pairs.gap"),
-        10 => write_all(out, b"pairs.a"),
-        11 => write_all(out, b"pairs.b"),
-        12 => write_all(out, b"pairs.law"),
-        13 => write_all(out, b"num_slots"),
-        _ => write_all(out, b"slots"),
+impl From<Malformed> for Difference {
+    fn from(_: Malformed) -> Difference {
+        Difference::Malformed
     }
 }
 
-// The name of a field of the hull.
-fn write_late(out: &impl Print, field: u32) -> bool {
-    match field {
-        15 => write_all(out, b"num_real"),
-        16 => write_all(out, b"pt_out"),
-        17 => write_all(out, b"pt_dir"),
-        18 => write_all(out, b"num_tris"),
-        19 => write_all(out, b"idx"),
-        20 => write_all(out, b"inv"),
-        21 => write_all(out, b"num_imag"),
-        22 => write_all(out, b"num_nbrs"),
-        _ => write_all(out, b"imag_nbrs"),
+impl fmt::Display for Difference {
+    fn fmt<W: fmt::Write>(&self, f: &mut fmt::Formatter<W>) -> fmt::Result {
+        f.write_str(match *self {
+            Difference::At(field) => field,
+            Difference::Malformed => "malformed",
+        })
     }
 }
 
-pub fn write_name(out: &impl Print, field: u32) -> bool {
-    if field < NUM_REAL {
-        return write_early(out, field);
+// ---- a value
+
+fn holds(is: bool, field: &'static str) -> Result<(), Difference> {
+    if is {
+        Ok(())
+    } else {
+        Err(Difference::At(field))
     }
-    write_late(out, field)
+}
+
+// A value in a place that is used or not.
+fn place<R: Answer>(
+    words: &mut Words<'_>,
+    used: bool,
+    got: R,
+    field: &'static str,
+) -> Result<(), Difference> {
+    if used {
+        return holds(words.says(got)?, field);
+    }
+    holds(got.value() == Value::Bits(0), field)
+}
+
+// A count, which its array has to hold.
+fn count(
+    words: &mut Words<'_>,
+    used: bool,
+    got: u8,
+    most: u8,
+    field: &'static str,
+) -> Result<(), Difference> {
+    place(words, used, got, field)?;
+    holds(got <= most, field)
+}
+
+// ---- planar
+
+// The crossfade is 0; the inverse is 1 and its four numbers.
+fn law(words: &mut Words<'_>, used: bool, law: Law) -> Result<(), Difference> {
+    match law {
+        Law::Crossfade => place(words, used, 0u8, "pairs.law"),
+        Law::Inverse(m0, m1, m2, m3) => {
+            place(words, used, 1u8, "pairs.law")?;
+            for m in [m0, m1, m2, m3] {
+                place(words, used, m, "pairs.law")?;
+            }
+            Ok(())
+        }
+    }
+}
+
+fn pair(words: &mut Words<'_>, used: bool, p: &PlanarPair) -> Result<(), Difference> {
+    place(words, used, p.start, "pairs.start")?;
+    place(words, used, p.gap, "pairs.gap")?;
+    place(words, used, p.a, "pairs.a")?;
+    place(words, used, p.b, "pairs.b")?;
+    law(words, used, p.law)
+}
+
+// What stands in the record before the hull's fields.
+fn planar(words: &mut Words<'_>, p: &VbapPanner) -> Result<(), Difference> {
+    count(words, true, p.num_outputs, 40, "num_outputs")?;
+    place(words, true, p.kind as u8, "kind")?;
+    place(words, true, p.mono, "mono")?;
+    count(words, true, p.num_pairs, 40, "num_pairs")?;
+    let pairs = usize::from(p.num_pairs);
+    for (i, of) in p.pairs.iter().enumerate() {
+        pair(words, i < pairs, of)?;
+    }
+    count(words, true, p.num_slots, 40, "num_slots")?;
+    let slots = usize::from(p.num_slots);
+    for (i, slot) in p.slots.iter().enumerate() {
+        place(words, i < slots, *slot, "slots")?;
+    }
+    Ok(())
+}
+
+// ---- hull
+
+// The real points: each one's slot and the three numbers of its direction.
+fn points(words: &mut Words<'_>, p: &VbapPanner) -> Result<(), Difference> {
+    count(words, true, p.num_real, 40, "num_real")?;
+    let real = usize::from(p.num_real);
+    for i in 0..40 {
+        place(words, i < real, p.pt_out[i], "pt_out")?;
+        for x in &p.pt_dir[3 * i..3 * i + 3] {
+            place(words, i < real, *x, "pt_dir")?;
+        }
+    }
+    Ok(())
+}
+
+// The triplets: each one's point numbers and inverse.
+fn triplets(words: &mut Words<'_>, p: &VbapPanner) -> Result<(), Difference> {
+    count(words, true, p.num_tris, 80, "num_tris")?;
+    let tris = usize::from(p.num_tris);
+    for t in 0..80 {
+        for x in &p.idx[3 * t..3 * t + 3] {
+            place(words, t < tris, *x, "idx")?;
+        }
+        for e in 0..9 {
+            place(words, t < tris, p.inv[e * 80 + t], "inv")?;
+        }
+    }
+    Ok(())
+}
+
+// The imaginary points: each one's count of neighbours, and these. An unused one's count is 0.
+fn imaginary(words: &mut Words<'_>, p: &VbapPanner) -> Result<(), Difference> {
+    count(words, true, p.num_imag, 14, "num_imag")?;
+    let imag = usize::from(p.num_imag);
+    for k in 0..14 {
+        count(words, k < imag, p.num_nbrs[k], 40, "num_nbrs")?;
+        let nbrs = usize::from(p.num_nbrs[k]);
+        for j in 0..40 {
+            place(words, j < nbrs, p.imag_nbrs[k * 40 + j], "imag_nbrs")?;
+        }
+    }
+    Ok(())
+}
+
+// ---- the answer
+
+// The refusal's number, how many imaginary points were made, and the record.
+pub fn check_made(words: &mut Words<'_>, made: &NewPanner) -> Result<(), Difference> {
+    place(words, true, made.number, "number")?;
+    place(words, true, made.imaginary, "imaginary")?;
+    let p = &made.panner;
+    planar(words, p)?;
+    points(words, p)?;
+    triplets(words, p)?;
+    imaginary(words, p)
 }

@@ -29,9 +29,8 @@ real (inf s) h = refl
 real (fin s m e) h = refl
 
 pub pattern_nan : (f : Format) (x : Float) → ne x x ≡ true → Nan ≡ pattern_of f x
-unfolding pattern_of is_nan
+unfolding is_nan
 pattern_nan f x h = sym (yes (is_nan x) Nan (Bits (to_bits f x)) (ap is_nan (differs_from_itself x (subst T (sym h) tt))))
 
 pub pattern_real : (f : Format) (x : Float) → ne x x ≡ false → Bits (to_bits f x) ≡ pattern_of f x
-unfolding pattern_of
 pattern_real f x h = sym (no (is_nan x) Nan (Bits (to_bits f x)) (real x h))

@@ -1,201 +1,132 @@
-// The lines of a list, one after the other, read into a lent buffer.
-ghost use Rattle.std.specs.Prelude.{◌≡◌, ◌-◌, ◌≤◌, length};
+// The lines of a list, one after the other. docs/CASES.md, "Lines".
+use crate::{Malformed, Words};
+use std::alloc::Global;
+use std::io::{self, BufRead, BufReader, Read};
 
-use crate::find;
-use crate::values::byte_at;
-use std::io::Read;
+// The bytes that a line may have, with its line feed. Origin: docs/CASES.md, "Lines".
+const LONGEST: usize = 65536;
 
-// What a list is read into. Origin: docs/CASES.md, "Lines".
-pub type Buffer = [u8; 65536];
-
-// A buffer of zeros.
-pub fn large_buffer() -> Buffer {
-    [0; 65536]
-}
-
-// The case at hand, and what is left to read behind it.
-#[derive(Clone, Copy)]
-pub struct Lines {
-    // a part of the buffer, with no line end, and the number of its line
-    pub from: usize,
-    pub to: usize,
+// What is left of a list, and the line at hand.
+#[derive(Drop)]
+pub struct Lines<R> {
+    input: BufReader<R>,
+    // with its line feed
+    line: Vec<u8>,
     pub number: u64,
-    // false where the buffer does not hold the line, or no line end came
-    pub is_whole: bool,
-    // 0 behind the last case. Nothing says that an input ends, so this counts down from a number that no run uses up.
-    pub left: u64,
-    // false for a comment, and for what follows the start of a line that is too long
-    is_case: bool,
-    // the buffer holds bytes that no line has taken, from an index to another
-    next: usize,
-    held: usize,
-    // whether the input has ended, and whether these bytes follow the start of a line that is too long
+    // a read that fails ends the input
     is_ended: bool,
-    is_rest: bool,
 }
 
-// The bytes from an index to another, or none where there are no such.
-pub fn part<'a>(s: &'a [u8], from: usize, to: usize) -> &'a [u8] {
-    if from > to {
-        return &s[..0];
-    }
-    if to > s.len() {
-        return &s[..0];
-    }
-    &s[from..to]
+// A line that is no comment.
+#[derive(Clone, Copy)]
+pub struct Case<'a> {
+    pub number: u64,
+    // Without its line feed. Of a line that is too long or has no line feed it is an error that holds the first bytes.
+    pub line: Result<&'a [u8], &'a [u8]>,
 }
 
-// Moves the bytes from an index to another to the front, and answers how many there are.
-fn to_front(buf: &mut [u8], from: usize, to: usize) -> usize
-    requires { (from ≤ to) × (to ≤ length buf.old) }
-    ensures { result ≡ to - from }
-{
-    let n = to - from;
-    if from == 0 {
-        return n;
-    }
-    let mut i = 0;
-    while i < n {
-        buf[i] = buf[from + i];
-        i += 1;
-    }
-    n
-}
-
-// Reads until a buffer is full, the input ends or a read fails, and answers how many bytes it put at its start.
-fn read_full(input: &mut impl Read, buf: &mut [u8]) -> usize
-    ensures { result ≤ length buf.new }
-{
-    let mut done = 0;
-    while done < buf.len() {
-        let got = input.read(&mut buf[done..]).unwrap_or(0);
-        if got == 0 {
-            break;
-        }
-        done += got;
-    }
-    done
-}
-
-// Reads on after the bytes that the buffer holds, and answers how many it then holds.
-fn fill(input: &mut impl Read, buf: &mut [u8], held: usize) -> usize
-    requires { held ≤ length buf.old }
-{
-    let got = read_full(input, &mut buf[held..]);
-    held + got
-}
-
-// With more bytes behind those that no line has taken.
-fn refilled(input: &mut impl Read, buf: &mut [u8], c: Lines) -> Lines
-    requires { (c.next ≤ c.held) × (c.held ≤ length buf.old) }
-    ensures { result.left ≤ c.left }
-{
-    let kept = to_front(buf, c.next, c.held);
-    let held = fill(input, buf, kept);
-    let mut l = c;
-    l.is_case = false;
-    l.next = 0;
-    l.held = held;
-    l.is_ended = held < buf.len();
-    l
-}
-
-// With the line to an index, behind which the next one starts. The end of a line that is too long is no line.
-fn line_to(c: Lines, to: usize, next: usize, is_whole: bool, is_comment: bool) -> Lines
-    ensures { result.left ≤ c.left }
-{
-    let more = if c.is_rest { 0 } else { 1 };
-    let mut l = c;
-    l.from = c.next;
-    l.to = to;
-    l.number = std::num::wrapping_add_u64(c.number, more);
-    l.is_whole = is_whole;
-    l.is_case = !(c.is_rest | is_comment);
-    l.next = next;
-    l.is_rest = !is_whole;
-    l
-}
-
-// Behind the last line.
-fn ended(c: Lines) -> Lines
-    ensures { result.left ≤ c.left }
-{
-    let mut l = c;
-    l.is_case = false;
-    l.left = 0;
-    l
-}
-
-// The next line, or more bytes to find its end in. A read that fails ends the input.
-fn step(input: &mut impl Read, buf: &mut [u8], c: Lines) -> Lines
-    ensures { result.left ≤ c.left }
-{
-    let next = c.next;
-    let held = c.held;
-    if held > buf.len() {
-        return ended(c);
-    }
-    if next > held {
-        return ended(c);
-    }
-    let e = find(part(buf, 0, held), next, b'\n');
-    if e < held {
-        return line_to(c, e, e + 1, true, byte_at(buf, next) == b'#');
-    }
-    if c.is_ended & (next == held) {
-        return ended(c);
-    }
-    if c.is_ended | (held - next == buf.len()) {
-        return line_to(c, held, held, false, false);
-    }
-    refilled(input, buf, c)
-}
-
-fn next_in(input: &mut impl Read, buf: &mut [u8], c: Lines) -> Lines
-    ensures { result.left ≤ c.left - 1 }
-{
-    let mut l = c;
-    while l.left > 0 {
-        l.left -= 1;
-        l = step(input, buf, l);
-        if l.is_case {
-            return l;
+impl<'a> Case<'a> {
+    // Its bytes, of a line that is too long or has no line feed the first ones.
+    pub fn bytes(self) -> &'a [u8] {
+        match self.line {
+            Ok(line) => line,
+            Err(part) => part,
         }
     }
-    l
+
+    // The bytes of a line as it has to be, or none.
+    pub fn whole(self) -> &'a [u8] {
+        match self.line {
+            Ok(line) => line,
+            Err(part) => &part[..0],
+        }
+    }
+
+    pub fn words(self) -> Result<Words<'a>, Malformed> {
+        match self.line {
+            Ok(line) => Ok(Words::of(line)),
+            Err(_) => Err(Malformed),
+        }
+    }
 }
 
-// The next case.
-pub fn next(input: &mut impl Read, buf: &mut Buffer, c: Lines) -> Lines
-    ensures { result.left ≤ c.left - 1 }
-{
-    next_in(input, buf, c)
-}
+impl<R: Read> Lines<R> {
+    pub fn of(alloc: Global, input: R) -> io::Result<Lines<R>>
+    where
+        R: Drop,
+    {
+        Ok(Lines {
+            input: BufReader::new(alloc, input)?,
+            line: Vec::with_capacity(alloc, LONGEST)?,
+            number: 0,
+            is_ended: false,
+        })
+    }
 
-// The first case.
-pub fn first(input: &mut impl Read, buf: &mut Buffer) -> Lines {
-    let c = Lines {
-        from: 0,
-        to: 0,
-        number: 0,
-        is_whole: false,
-        left: u64::MAX,
-        is_case: false,
-        next: 0,
-        held: 0,
-        is_ended: false,
-        is_rest: false,
-    };
-    next(input, buf, c)
-}
+    // Whether the line at hand has its line feed.
+    fn is_whole(&self) -> bool {
+        self.line.last() == Some(&b'\n')
+    }
 
-// The bytes of the line at hand.
-pub fn bytes_of<'a>(buf: &'a Buffer, c: Lines) -> &'a [u8] {
-    part(buf, c.from, c.to)
-}
+    // Reads a line, or its start and what follows it up to the next line.
+    fn read_line(&mut self) {
+        self.line.clear();
+        let limit = LONGEST as u64;
+        let got = self
+            .input
+            .by_ref()
+            .take(limit)
+            .read_until(b'\n', &mut self.line);
+        self.is_ended = got.is_err();
+        if !self.is_whole() && self.line.len() >= LONGEST {
+            self.is_ended = self.input.skip_until(b'\n').is_err();
+        }
+    }
 
-// The line at hand where it is whole, or an empty line, which is malformed.
-pub fn line_of<'a>(buf: &'a Buffer, c: Lines) -> &'a [u8] {
-    let to = if c.is_whole { c.to } else { c.from };
-    part(buf, c.from, to)
+    // The line at hand, where it is no comment.
+    fn case(&self) -> Option<Case<'_>> {
+        let number = self.number;
+        match self.line.as_slice() {
+            [b'#', .., b'\n'] => None,
+            [line @ .., b'\n'] => Some(Case {
+                number,
+                line: Ok(line),
+            }),
+            part => Some(Case {
+                number,
+                line: Err(part),
+            }),
+        }
+    }
+
+    // The next case.
+    pub fn next(&mut self) -> Option<Case<'_>> {
+        for _ in 0..u64::MAX {
+            if self.is_ended {
+                return None;
+            }
+            self.read_line();
+            if self.line.is_empty() {
+                return None;
+            }
+            self.number = self.number.wrapping_add(1);
+            if self.case().is_some() {
+                break;
+            }
+        }
+        self.case()
+    }
+
+    // Replays the cases that are left, one after the other.
+    pub fn each<F: FnMut(Case<'_>) -> io::Result<()>>(&mut self, mut replay: F) -> io::Result<()>
+        requires { F.IsAlwaysCallable replay }
+    {
+        for _ in 0..u64::MAX {
+            match self.next() {
+                Some(case) => replay(case)?,
+                None => break,
+            }
+        }
+        Ok(())
+    }
 }

@@ -1,10 +1,11 @@
 // The values that words stand for: the patterns of floats, whole numbers and truth values.
-ghost use Rattle.std.specs.Prelude.{◌≡◌, ◌%◌, ◌^◌, from_bits, slice_index};
-ghost use Rattle.std.specs.Float.{binary32, binary64};
+ghost use Rattle.std.specs.Prelude.{◌≡◌, ◌≤◌, ◌%◌, ◌^◌, ℕ, from_bits, slice_index, IfOk};
+ghost use Rattle.std.specs.Float.{Format, Float, binary32, binary64};
 ghost use Rattle.test_lines.specs.Words.{word_at};
-ghost use Rattle.test_lines.specs.Values.{is_float, has_form, refused_at, taken_of, pattern_of, agree_of};
+ghost use Rattle.test_lines.specs.Values.{is_float, has_form, taken_of, pattern_of};
 
-use crate::{Cursor, Word};
+use crate::{Malformed, Word, Words};
+use std::fmt;
 
 // What a word has to be: the pattern of an f32 or of an f64, a whole number, or 0 or 1.
 #[derive(Clone, Copy)]
@@ -15,29 +16,49 @@ pub enum Form {
     Truth,
 }
 
-// What a word says, or what a function answered.
-#[derive(Clone, Copy)]
+// What a word says, or what a function answered. Two of them are the same bit by bit, a NaN and a NaN too. No Option: a NaN is a value like others.
+#[derive(Clone, Copy, PartialEq, Eq)]
 pub enum Value {
     Bits(u64),
     Nan,
 }
 
-// What stands at a cursor: whether it has the form that was asked, and where the next word starts.
+// A value as a word of its form.
 #[derive(Clone, Copy)]
-pub struct Taken {
-    pub good: bool,
+pub struct Shown {
     pub value: Value,
-    pub next: Cursor,
+    pub form: Form,
+}
+
+impl Shown {
+    pub fn of<R: Answer>(got: R) -> Shown {
+        Shown {
+            value: got.value(),
+            form: R::FORM,
+        }
+    }
+}
+
+impl fmt::Display for Shown {
+    fn fmt<W: fmt::Write>(&self, f: &mut fmt::Formatter<W>) -> fmt::Result {
+        let Shown { value, form } = *self;
+        match value {
+            Value::Bits(b) => match form {
+                Form::Single => write!(f, "{b:08x}"),
+                Form::Double => write!(f, "{b:016x}"),
+                Form::Whole | Form::Truth => write!(f, "{b:x}"),
+            },
+            Value::Nan => f.write_str("nan"),
+        }
+    }
 }
 
 fn is_float(form: Form) -> bool
     ensures { result ≡ is_float form }
 {
     match form {
-        Form::Single => true,
-        Form::Double => true,
-        Form::Whole => false,
-        Form::Truth => false,
+        Form::Single | Form::Double => true,
+        Form::Whole | Form::Truth => false,
     }
 }
 
@@ -53,115 +74,213 @@ fn has_form(form: Form, first: u8, value: u64, digits: usize) -> bool
     }
 }
 
-pub fn byte_at(s: &[u8], at: usize) -> u8
-    ensures { result ≡ slice_index s.now at }
-{
-    if at < s.len() { s[at] } else { 0 }
+// ---- floats and their patterns
+
+// A float by its pattern.
+pub trait Pattern: Copy {
+    ghost format: { Format };
+
+    ghost width: { ℕ };
+
+    ghost value: { Self → Float };
+
+    // The float of a pattern; every NaN's pattern is the one NaN.
+    fn of_bits(bits: u64) -> Self
+        ensures { value result ≡ from_bits format (bits % 2 ^ width) };
+
+    fn pattern(self) -> Value
+        ensures { result ≡ pattern_of format (value self) };
 }
 
-// The value at a cursor, in a form. An expected float may be the word nan.
-pub fn take(s: &[u8], c: Cursor, form: Form, expected: bool) -> Taken
-    ensures { result ≡ taken_of form expected (slice_index s.now c.at) (word_at s.now c.at) }
-{
-    let at = c.at;
-    let first = byte_at(s, at);
-    let step = crate::next_word(s, c);
-    let word = step.word;
-    let next = step.next;
-    match word {
-        Word::Number(v, digits) => Taken {
-            good: has_form(form, first, v, digits),
-            value: Value::Bits(v),
-            next,
-        },
-        Word::Nan => Taken {
-            good: expected & is_float(form),
-            value: Value::Nan,
-            next,
-        },
-        Word::Name(_, _) => refused(next),
-        Word::End => refused(next),
-        Word::Bad => refused(next),
+impl Pattern for f32 {
+    ghost format = { binary32 };
+
+    ghost width = { 32 };
+
+    ghost value = { λ x. x };
+
+    fn of_bits(bits: u64) -> f32 {
+        let b = (bits % 0x1_0000_0000) as u32;
+        if b % 0x8000_0000 > 0x7f80_0000 {
+            return 0.0 / 0.0;
+        }
+        f32::from_bits(b)
+    }
+
+    fn pattern(self) -> Value {
+        if self != self {
+            return Value::Nan;
+        }
+        Value::Bits(u64::from(self.to_bits()))
     }
 }
 
-fn refused(next: Cursor) -> Taken
-    ensures { result ≡ refused_at next }
-{
-    Taken {
-        good: false,
-        value: Value::Nan,
-        next,
+impl Pattern for f64 {
+    ghost format = { binary64 };
+
+    ghost width = { 64 };
+
+    ghost value = { λ x. x };
+
+    fn of_bits(bits: u64) -> f64 {
+        if bits % 0x8000_0000_0000_0000 > 0x7ff0_0000_0000_0000 {
+            return 0.0 / 0.0;
+        }
+        f64::from_bits(bits)
+    }
+
+    fn pattern(self) -> Value {
+        if self != self {
+            return Value::Nan;
+        }
+        Value::Bits(self.to_bits())
     }
 }
 
-// The f32 of a pattern; every NaN's pattern is the one NaN.
-pub fn single(bits: u64) -> f32
-    ensures { result ≡ from_bits binary32 (bits % 2 ^ 32) }
-{
-    let b = (bits % 0x1_0000_0000) as u32;
-    if b % 0x8000_0000 > 0x7f80_0000 {
-        return 0.0 / 0.0;
+// ---- what the next words say
+
+impl<'a> Words<'a> {
+    // The next word's value, in a form. An expected float may be the word nan.
+    pub fn take(&mut self, form: Form, expected: bool) -> Result<Value, Malformed>
+        ensures value { result ≡ taken_of form expected (slice_index self.old.line.now self.old.at) (word_at self.old.line.now self.old.at).word }
+        ensures rest { self.new.at ≡ (word_at self.old.line.now self.old.at).next }
+    {
+        let first = self.line.get(self.at).copied().unwrap_or(0);
+        match self.next() {
+            Word::Number(v, digits) if has_form(form, first, v, digits) => Ok(Value::Bits(v)),
+            Word::Nan if expected & is_float(form) => Ok(Value::Nan),
+            _ => Err(Malformed),
+        }
     }
-    f32::from_bits(b)
-}
 
-// The f64 of a pattern.
-pub fn double(bits: u64) -> f64
-    ensures { result ≡ from_bits binary64 bits }
-{
-    if bits % 0x8000_0000_0000_0000 > 0x7ff0_0000_0000_0000 {
-        return 0.0 / 0.0;
+    // An argument: a float is its pattern, and no nan.
+    fn bits(&mut self, form: Form) -> Result<u64, Malformed> {
+        match self.take(form, false)? {
+            Value::Bits(b) => Ok(b),
+            Value::Nan => Err(Malformed),
+        }
     }
-    f64::from_bits(bits)
-}
 
-fn wide(x: u32) -> u64
-    ensures { result ≡ x }
-{
-    x as u64
-}
-
-// The pattern of an f32.
-pub fn pattern32(x: f32) -> Value
-    ensures { result ≡ pattern_of binary32 x }
-{
-    if x != x {
-        return Value::Nan;
+    // Whether the next word says what was answered.
+    pub fn says<R: Answer>(&mut self, got: R) -> Result<bool, Malformed> {
+        Ok(self.take(R::FORM, true)? == got.value())
     }
-    Value::Bits(wide(f32::to_bits(x)))
-}
 
-// The pattern of an f64.
-pub fn pattern64(x: f64) -> Value
-    ensures { result ≡ pattern_of binary64 x }
-{
-    if x != x {
-        return Value::Nan;
+    pub fn read<T: Given>(&mut self) -> Result<T, Malformed> {
+        T::read(self)
     }
-    Value::Bits(f64::to_bits(x))
-}
 
-// Whether two values are the same: bit by bit, a NaN with a NaN.
-pub fn agree(a: Value, b: Value) -> bool
-    ensures { result ≡ agree_of a b }
-{
-    match a {
-        Value::Bits(x) => match b {
-            Value::Bits(y) => x == y,
-            Value::Nan => false,
-        },
-        Value::Nan => match b {
-            Value::Bits(_) => false,
-            Value::Nan => true,
-        },
+    // A whole number up to a greatest one.
+    pub fn up_to(&mut self, most: usize) -> Result<usize, Malformed>
+        ensures { IfOk result (λ n. n ≤ most) }
+    {
+        let n: usize = self.read()?;
+        if n <= most { Ok(n) } else { Err(Malformed) }
+    }
+
+    // As many as a buffer has places.
+    pub fn fill<T: Given>(&mut self, to: &mut [T]) -> Result<(), Malformed> {
+        for x in to {
+            *x = self.read()?;
+        }
+        Ok(())
+    }
+
+    // As many as the count before them says, to the front of a buffer.
+    pub fn list<'b, T: Given>(&mut self, to: &'b mut [T]) -> Result<&'b mut [T], Malformed> {
+        let n = self.up_to(to.len())?;
+        let to = &mut to[..n];
+        self.fill(to)?;
+        Ok(to)
     }
 }
 
-// The bits of an argument, which is never written nan.
-pub fn bits_of(v: Value) -> u64 {
-    match v {
-        Value::Bits(b) => b,
-        Value::Nan => 0,
+// What the next words of a line may give.
+pub trait Given: Copy {
+    fn read(words: &mut Words<'_>) -> Result<Self, Malformed>;
+}
+
+impl Given for f32 {
+    fn read(words: &mut Words<'_>) -> Result<f32, Malformed> {
+        Ok(f32::of_bits(words.bits(Form::Single)?))
+    }
+}
+
+impl Given for f64 {
+    fn read(words: &mut Words<'_>) -> Result<f64, Malformed> {
+        Ok(f64::of_bits(words.bits(Form::Double)?))
+    }
+}
+
+impl Given for u64 {
+    fn read(words: &mut Words<'_>) -> Result<u64, Malformed> {
+        words.bits(Form::Whole)
+    }
+}
+
+impl Given for usize {
+    fn read(words: &mut Words<'_>) -> Result<usize, Malformed> {
+        Ok(words.bits(Form::Whole)? as usize)
+    }
+}
+
+impl Given for u8 {
+    fn read(words: &mut Words<'_>) -> Result<u8, Malformed> {
+        u8::try_from(words.bits(Form::Whole)?).map_err(|_| Malformed)
+    }
+}
+
+// What may be answered, as a word of its form.
+pub trait Answer: Copy {
+    const FORM: Form;
+
+    fn value(self) -> Value;
+}
+
+impl Answer for f32 {
+    const FORM: Form = Form::Single;
+
+    fn value(self) -> Value {
+        self.pattern()
+    }
+}
+
+impl Answer for f64 {
+    const FORM: Form = Form::Double;
+
+    fn value(self) -> Value {
+        self.pattern()
+    }
+}
+
+impl Answer for bool {
+    const FORM: Form = Form::Truth;
+
+    fn value(self) -> Value {
+        Value::Bits(u64::from(self))
+    }
+}
+
+impl Answer for u8 {
+    const FORM: Form = Form::Whole;
+
+    fn value(self) -> Value {
+        Value::Bits(u64::from(self))
+    }
+}
+
+impl Answer for u32 {
+    const FORM: Form = Form::Whole;
+
+    fn value(self) -> Value {
+        Value::Bits(u64::from(self))
+    }
+}
+
+impl Answer for usize {
+    const FORM: Form = Form::Whole;
+
+    fn value(self) -> Value {
+        Value::Bits(self as u64)
     }
 }

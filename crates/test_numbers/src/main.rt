@@ -1,6 +1,8 @@
 // Replays the cases of the number work: widths, roots, order, signs and remainder.
 #![tactic(auto)]
 
-fn main(rt: HostRuntime) {
-    test_floats::run(&rt);
+use std::io;
+
+fn main(rt: HostRuntime) -> io::Result<()> {
+    test_floats::run(&rt)
 }

@@ -1,6 +1,5 @@
-// The words of a line that give a record, or positions and LFE entries. docs/CASES.md, "Layouts" and "Rows".
+// The words of a line that give a record, or floats by their places. docs/CASES.md, "Layouts" and "Rows".
 #![tactic(auto)]
 
+pub mod places;
 pub mod record;
-pub mod speakers;
-pub mod words;

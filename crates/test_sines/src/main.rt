@@ -1,6 +1,8 @@
 // Replays the cases of the stand-ins: sine and cosine, each and together, arctangent and atan2.
 #![tactic(auto)]
 
-fn main(rt: HostRuntime) {
-    test_floats::run(&rt);
+use std::io;
+
+fn main(rt: HostRuntime) -> io::Result<()> {
+    test_floats::run(&rt)
 }

@@ -1,25 +1,22 @@
 -- `test_lines::kind` meets its contract: each answer goes by the tests that led to it. Assumes nothing.
--- `test_lines::kind` meets its contract: each answer goes by the tests that led to it. Assumes nothing.
-use Rattle.std.proofs.Common.{sym, ◌∙◌, eq-eqb, ne_eqb}
-use Rattle.test_lines.specs.Words.{kind_of, other_of}
+use Rattle.std.proofs.Common.{sym, ◌∙◌, None}
+use Rattle.test_lines.proofs.Walk.{same_by, kind_by, yes, no}
+use Rattle.test_lines.specs.declared.Word.TheVariants.{Name, Bad}
 use Rattle.test_lines.proofs.kind.Goals as goal
 
-pub returns-then-w-eq0 : goal.returns-then-w-eq0
-unfolding kind_of
-returns-then-w-eq0 c = simp (eq-eqb _ _ c.if-w-eq0.true)
+pub returns-then-eq : goal.returns-then-eq
+returns-then-eq c = simp (sym c.is_empty.ensures ∙ c.if-is_empty.false, same_by _ _ _ _ c.as_slice.ensures c.eq.ensures ∙ c.if-eq.true)
 
-pub returns-then-same : goal.returns-then-same
-unfolding kind_of
-returns-then-same c = simp (ne_eqb _ _ c.if-w-eq0.false, sym c.same.ensures ∙ c.if-same.true)
+pub returns-in-Some : goal.returns-in-Some
+returns-in-Some c =
+    kind_by _ _ _ _ _ _ _ c.is_empty.ensures c.if-is_empty.false c.as_slice.ensures c.eq.ensures c.if-eq.false (sym c.in-Some.is ∙ c.number.ensures)
 
-pub returns-in-Value : goal.returns-in-Value
-unfolding kind_of other_of
-returns-in-Value c = simp (ne_eqb _ _ c.if-w-eq0.false, sym c.same.ensures ∙ c.if-same.false, sym c.number-n.ensures ∙ c.in-Value.is)
+pub returns-in-None : goal.returns-in-None
+returns-in-None c =
+    sym (yes _ (Name c.args.from c.args.to) Bad (sym c.is_name.ensures ∙ c.if-is_name.true))
+    ∙ kind_by _ _ c.args.from c.args.to _ _ None c.is_empty.ensures c.if-is_empty.false c.as_slice.ensures c.eq.ensures c.if-eq.false (sym c.in-None.is ∙ c.number.ensures)
 
-pub returns-then-is_name : goal.returns-then-is_name
-unfolding kind_of other_of
-returns-then-is_name c = simp (ne_eqb _ _ c.if-w-eq0.false, sym c.same.ensures ∙ c.if-same.false, sym c.number-n.ensures ∙ c.in-Not.is, sym c.is_name.ensures ∙ c.if-is_name.true)
-
-pub returns-else-is_name : goal.returns-else-is_name
-unfolding kind_of other_of
-returns-else-is_name c = simp (ne_eqb _ _ c.if-w-eq0.false, sym c.same.ensures ∙ c.if-same.false, sym c.number-n.ensures ∙ c.in-Not.is, sym c.is_name.ensures ∙ c.if-is_name.false)
+pub returns-in-None-2 : goal.returns-in-None-2
+returns-in-None-2 c =
+    sym (no _ (Name c.args.from c.args.to) Bad (sym c.is_name.ensures ∙ c.if-is_name.false))
+    ∙ kind_by _ _ c.args.from c.args.to _ _ None c.is_empty.ensures c.if-is_empty.false c.as_slice.ensures c.eq.ensures c.if-eq.false (sym c.in-None-2.is ∙ c.number.ensures)

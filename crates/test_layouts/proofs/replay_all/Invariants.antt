@@ -1,5 +1,0 @@
--- `test_layouts::replay_all` is safe and ends: what is left to read counts down. Assumes nothing.
-use Rattle.test_layouts.proofs.replay_all.Given as goal
-
-abbrev pub decreases-loop-l : goal.decreases-loop-l
-decreases-loop-l g l = l.l.left

@@ -1,9 +1,0 @@
--- `test_rows::read_all_listed` is safe and ends: the turns are bounded by the count. Assumes nothing.
-use Rattle.std.proofs.Common.{◌-◌}
-use Rattle.test_rows.proofs.row.read_all_listed.Given as goal
-
-abbrev pub invariant-loop-i : goal.invariant-loop-i
-invariant-loop-i l = Unit {0}
-
-abbrev pub decreases-loop-i : goal.decreases-loop-i
-decreases-loop-i l = l.count - l.i

@@ -1,0 +1,27 @@
+// The lines that set a layout.
+use crate::Difference;
+use layout_record::VbapPanner;
+use test_lines::Words;
+
+// A layout that `layout_new::new` makes of the positions and the LFE entries of a line.
+pub fn layout(words: &mut Words<'_>, panner: &mut VbapPanner) -> Result<(), Difference> {
+    let mut positions = [0.0f32; 255];
+    let mut lfe = [0usize; 64];
+    let positions = words.list(&mut positions)?;
+    let lfe = words.list(&mut lfe)?;
+    words.end()?;
+    let made = layout_new::new(positions, lfe);
+    *panner = made.panner;
+    if made.number != 0 {
+        return Err(Difference::Number(made.number));
+    }
+    Ok(())
+}
+
+// A layout made by hand.
+pub fn record(words: &mut Words<'_>, panner: &mut VbapPanner) -> Result<(), Difference> {
+    let record = test_record_words::record::record(words)?;
+    words.end()?;
+    *panner = record;
+    Ok(())
+}
