@@ -2,12 +2,13 @@
 // word: it has to hold 0 or +0.
 use layout_new::NewPanner;
 use layout_planar::{Law, PlanarPair};
-use layout_record::VbapPanner;
+use layout_record::{VbapPanner, no_panner};
+use refusals::{Refusal, number_in};
 use std::fmt;
 use test_lines::values::{Answer, Value};
 use test_lines::{Malformed, Words};
 
-// How a line differs: the name of the first field that does.
+// How a line differs: the name of the first field that does. No Option: it is an error, which `?` makes of a malformed line.
 #[derive(Clone, Copy)]
 pub enum Difference {
     At(&'static str),
@@ -152,9 +153,16 @@ fn imaginary(words: &mut Words<'_>, p: &VbapPanner) -> Result<(), Difference> {
 
 // ---- the answer
 
-// The refusal's number, how many imaginary points were made, and the record.
-pub fn check_made(words: &mut Words<'_>, made: &NewPanner) -> Result<(), Difference> {
-    place(words, true, made.number, "number")?;
+// The refusal's number, how many imaginary points were made, and the record. Beside a refusal there are none, and no place of the record is used.
+pub fn check_made(
+    words: &mut Words<'_>,
+    made: Result<NewPanner, Refusal>,
+) -> Result<(), Difference> {
+    place(words, true, number_in(&made), "number")?;
+    let made = made.unwrap_or(NewPanner {
+        panner: no_panner(),
+        imaginary: 0,
+    });
     place(words, true, made.imaginary, "imaginary")?;
     let p = &made.panner;
     planar(words, p)?;

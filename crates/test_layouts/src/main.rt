@@ -22,7 +22,7 @@ fn replayed(case: Case<'_>) -> Result<(), Difference> {
     let positions = words.list(&mut positions)?;
     let lfe = words.list(&mut lfe)?;
     let made = layout_new::new(positions, lfe);
-    check_made(&mut words, &made)?;
+    check_made(&mut words, made)?;
     words.end()?;
     Ok(())
 }

@@ -1,6 +1,7 @@
 // What is asked of the layout that is set, compared with the rest of a line.
 use crate::Difference;
 use layout_record::VbapPanner;
+use refusals::number_in;
 use test_lines::Words;
 use test_lines::values::{Pattern, Shown, Value};
 use test_record_words::places::places;
@@ -27,7 +28,7 @@ pub fn check_gains(words: &mut Words<'_>, panner: &VbapPanner) -> Result<(), Dif
     }
     places(words, &mut want[..reached], true)?;
     words.end()?;
-    let got = row_gains::gains(*panner, az, el, &mut out[..n]);
+    let got = number_in(&row_gains::gains(panner, az, el, &mut out[..n]));
     if got != u32::from(number) {
         return Err(Difference::Number(got));
     }
@@ -44,12 +45,14 @@ pub fn check_outputs(words: &mut Words<'_>, panner: &VbapPanner) -> Result<(), D
     let number: u8 = words.read()?;
     let count: u8 = words.read()?;
     words.end()?;
-    let got = layout_record::num_outputs(*panner);
-    if got.number != u32::from(number) {
-        return Err(Difference::Number(got.number));
+    let answer = layout_record::num_outputs(panner);
+    let got = number_in(&answer);
+    if got != u32::from(number) {
+        return Err(Difference::Number(got));
     }
-    if got.count != usize::from(count) {
-        return Err(Difference::Count(got.count));
+    let got = answer.unwrap_or(0);
+    if got != usize::from(count) {
+        return Err(Difference::Count(got));
     }
     Ok(())
 }

@@ -1,6 +1,6 @@
 // The lines that set a layout.
 use crate::Difference;
-use layout_record::VbapPanner;
+use layout_record::{VbapPanner, no_panner};
 use test_lines::Words;
 
 // A layout that `layout_new::new` makes of the positions and the LFE entries of a line.
@@ -10,12 +10,16 @@ pub fn layout(words: &mut Words<'_>, panner: &mut VbapPanner) -> Result<(), Diff
     let positions = words.list(&mut positions)?;
     let lfe = words.list(&mut lfe)?;
     words.end()?;
-    let made = layout_new::new(positions, lfe);
-    *panner = made.panner;
-    if made.number != 0 {
-        return Err(Difference::Number(made.number));
+    match layout_new::new(positions, lfe) {
+        Ok(made) => {
+            *panner = made.panner;
+            Ok(())
+        }
+        Err(why) => {
+            *panner = no_panner();
+            Err(Difference::Number(why.number()))
+        }
     }
-    Ok(())
 }
 
 // A layout made by hand.
