@@ -28,7 +28,6 @@ use Rattle.layout_hull.specs.Triplets.{Triplet}
 use Rattle.layout_record.specs.Shape.{numbers, Shape, silent, mono, planar, hull, Layout, imaginary_in}
 use Rattle.layout_record.specs.Panner.{pairs_in, slots_in, hull_in, laid, no_panner}
 use Rattle.layout_record.specs.Meaning.{HullFits, ShapeFits}
-
 use Rattle.layout_new.specs.Layout.{NewAnswer, layout_of, new_refusal, panner_of, new_of}
 use Rattle.layout_new.proofs.Answers.{accepted_fits}
 use Rattle.mix_block.specs.Limits.{most_sources}

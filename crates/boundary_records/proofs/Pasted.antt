@@ -74,8 +74,8 @@ module _ {A F : Type 0} (d : A) (g : Mut F (ℕ × Unit {0}) A) (h : ℕ → A) 
       let same = w i y q (omega arith) called in
       let rest = subst (λ (p : F). IsFromFnResultFrom g p ys (i + 1) k) same.0 more in
       elim (cases_eq j i) [
-        inl t ↦ rw t (at.1 d ∙ same.1)
-      | inr ne ↦ made_from ys (i + 1) k (omega arith) w rest j (omega arith) hi
+        | inl t ↦ rw t (at.1 d ∙ same.1)
+        | inr ne ↦ made_from ys (i + 1) k (omega arith) w rest j (omega arith) hi
       ]
 
   pub from_fn_made : {f : F} {ys : List A} → IsFromFnResult g f ys n → ((j : ℕ) (r : A) (q : F) → j < n → Called g f (j, tt) r q → (q ≡ f) × (r ≡ h j)) → ys ≡ map h (range n)

@@ -23,24 +23,48 @@ pub fn told<T>(rt: &impl Print, call: &str, a: &Result<T, Refusal>) -> io::Resul
     answer(rt, a)
 }
 
-pub fn place(rt: &impl Print, s: Session, source: usize, azimuth: f32, elevation: f32) -> io::Result<Session> {
+pub fn place(
+    rt: &impl Print,
+    s: Session,
+    source: usize,
+    azimuth: f32,
+    elevation: f32,
+) -> io::Result<Session> {
     let az = radians(azimuth);
     let el = radians(elevation);
     let placed = session_calls::place(s, source, az, el);
-    print!(rt; "place                             {source:7}{:9.2}{:11.2}{:14.6}{:11.6}   ", Decimal(azimuth), Decimal(elevation), Decimal(az), Decimal(el))?;
+    print!(rt;
+        "place                             {source:7}{:9.2}{:11.2}{:14.6}{:11.6}   ",
+        Decimal(azimuth),
+        Decimal(elevation),
+        Decimal(az),
+        Decimal(el)
+    )?;
     answer(rt, &placed)?;
     Ok(placed.unwrap_or(s))
 }
 
 // The answer of a call on a source that has no direction: the session stays where it is refused.
-fn left(rt: &impl Print, call: &str, source: usize, s: Session, a: Result<Session, Refusal>) -> io::Result<Session> {
+fn left(
+    rt: &impl Print,
+    call: &str,
+    source: usize,
+    s: Session,
+    a: Result<Session, Refusal>,
+) -> io::Result<Session> {
     print!(rt; "{call:34}{source:7}{:48}", "")?;
     answer(rt, &a)?;
     Ok(a.unwrap_or(s))
 }
 
 pub fn take_back(rt: &impl Print, s: Session, source: usize) -> io::Result<Session> {
-    left(rt, "take back", source, s, session_calls::take_back(s, source))
+    left(
+        rt,
+        "take back",
+        source,
+        s,
+        session_calls::take_back(s, source),
+    )
 }
 
 pub fn settle(rt: &impl Print, s: Session, source: usize) -> io::Result<Session> {
@@ -72,8 +96,17 @@ pub fn render(rt: &impl Print, s: Session) -> io::Result<Session> {
 
 // The standing directions of each source, as they are held, and its start row.
 pub fn holds(rt: &impl Print, s: &Session) -> io::Result<()> {
-    let lists = s.standing.chunks_exact(WIDTH).zip(s.starts.chunks_exact(ROW));
-    for (i, (count, (standing, row))) in s.counts.iter().zip(lists).take(usize::from(s.sources)).enumerate() {
+    let lists = s
+        .standing
+        .chunks_exact(WIDTH)
+        .zip(s.starts.chunks_exact(ROW));
+    for (i, (count, (standing, row))) in s
+        .counts
+        .iter()
+        .zip(lists)
+        .take(usize::from(s.sources))
+        .enumerate()
+    {
         println!(rt; "source {i}: standing directions{count:3}")?;
         for direction in standing.chunks_exact(2).take(usize::from(*count)) {
             if let [az, el] = direction {

@@ -26,7 +26,9 @@ fn tell(rt: &impl Print) -> io::Result<()> {
     if let Ok(made) = &made {
         rows::table(rt, &made.panner)?;
     }
-    println!(rt; "\n3. A rehearsal of two sources: the first plays 1 throughout, the second 0.5\n")?;
+    println!(rt;
+        "\n3. A rehearsal of two sources: the first plays 1 throughout, the second 0.5\n"
+    )?;
     scene::rehearse(rt)
 }
 

@@ -38,7 +38,13 @@ fn power(row: &[f32]) -> f32 {
     float_widths::narrow(sum)
 }
 
-fn show(rt: &impl Print, p: &VbapPanner, name: &str, azimuth: f32, elevation: f32) -> io::Result<()> {
+fn show(
+    rt: &impl Print,
+    p: &VbapPanner,
+    name: &str,
+    azimuth: f32,
+    elevation: f32,
+) -> io::Result<()> {
     let az = radians(azimuth);
     let el = radians(elevation);
     let mut row = [0.0; 40];
@@ -47,12 +53,18 @@ fn show(rt: &impl Print, p: &VbapPanner, name: &str, azimuth: f32, elevation: f3
     let degrees = (Decimal(azimuth), Decimal(elevation));
     let angles = (Decimal(az), Decimal(el));
     let squares = Decimal(power(&row));
-    print!(rt; "{name:22}{:9.2}{:11.2}{:14.6}{:11.6}{squares:12.6}", degrees.0, degrees.1, angles.0, angles.1)?;
+    print!(rt;
+        "{name:22}{:9.2}{:11.2}{:14.6}{:11.6}{squares:12.6}",
+        degrees.0, degrees.1, angles.0, angles.1
+    )?;
     gains_of(rt, &row, MARGIN)
 }
 
 pub fn table(rt: &impl Print, p: &VbapPanner) -> io::Result<()> {
-    println!(rt; "{:22}{:>9}{:>11}{:>14}{:>11}{:>12}  slot gain ..", "direction", "azimuth", "elevation", "in radians", "in radians", "squares")?;
+    println!(rt;
+        "{:22}{:>9}{:>11}{:>14}{:>11}{:>12}  slot gain ..",
+        "direction", "azimuth", "elevation", "in radians", "in radians", "squares"
+    )?;
     show(rt, p, "front", 0.0, 0.0)?;
     show(rt, p, "right", 90.0, 0.0)?;
     show(rt, p, "behind", 180.0, 0.0)?;

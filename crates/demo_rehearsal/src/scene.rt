@@ -5,7 +5,10 @@ use session_calls::Session;
 use std::io;
 
 fn heading(rt: &impl Print) -> io::Result<()> {
-    println!(rt; "{:34}{:>7}{:>9}{:>11}{:>14}{:>11}   answer", "call", "source", "azimuth", "elevation", "in radians", "in radians")
+    println!(rt;
+        "{:34}{:>7}{:>9}{:>11}{:>14}{:>11}   answer",
+        "call", "source", "azimuth", "elevation", "in radians", "in radians"
+    )
 }
 
 // ---- accepted
@@ -39,10 +42,26 @@ fn refused_render(rt: &impl Print, s: Session) -> io::Result<()> {
     let samples = [0.0; 8];
     let mut out = [0.0; HEARD];
     let mut long = [0.0; HEARD + 1];
-    told(rt, "render 0 samples", &session_render::render(s, 0, &samples, &mut out))?;
-    told(rt, "render 1,025 samples", &session_render::render(s, 1025, &samples, &mut out))?;
-    told(rt, "render 4 samples, 7 in the sample buffer", &session_render::render(s, 4, &samples[..7], &mut out))?;
-    told(rt, "render 4 samples, 101 in the output buffer", &session_render::render(s, 4, &samples, &mut long))
+    told(
+        rt,
+        "render 0 samples",
+        &session_render::render(s, 0, &samples, &mut out),
+    )?;
+    told(
+        rt,
+        "render 1,025 samples",
+        &session_render::render(s, 1025, &samples, &mut out),
+    )?;
+    told(
+        rt,
+        "render 4 samples, 7 in the sample buffer",
+        &session_render::render(s, 4, &samples[..7], &mut out),
+    )?;
+    told(
+        rt,
+        "render 4 samples, 101 in the output buffer",
+        &session_render::render(s, 4, &samples, &mut long),
+    )
 }
 
 // A list of 16, and one more.
@@ -87,7 +106,9 @@ pub fn rehearse(rt: &impl Print) -> io::Result<()> {
     let fresh = opened.session;
     let first = first_block(rt, fresh)?;
     let second = second_block(rt, first)?;
-    println!(rt; "\nWhat the session holds now, directions in radians, start rows as slot and gain:")?;
+    println!(rt;
+        "\nWhat the session holds now, directions in radians, start rows as slot and gain:"
+    )?;
     holds(rt, &second)?;
     println!(rt; "\nCalls that are refused, and change nothing:")?;
     heading(rt)?;

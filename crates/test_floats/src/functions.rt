@@ -14,7 +14,7 @@ pub enum Function {
     IsFinite32,
     SignBit32,
     Widen,
-    SinCos<f32>,
+    SinCos32,
     Max32,
     Min32,
     RemEuclid32,
@@ -48,7 +48,7 @@ pub const NAMES: [(&str, Function); COUNT] = [
     ("is_finite32", Function::IsFinite32),
     ("sign_bit32", Function::SignBit32),
     ("widen", Function::Widen),
-    ("sin_cos32", Function::SinCos<f32>),
+    ("sin_cos32", Function::SinCos32),
     ("max32", Function::Max32),
     ("min32", Function::Min32),
     ("rem_euclid32", Function::RemEuclid32),
@@ -125,7 +125,7 @@ pub fn check(function: Function, words: &mut Words<'_>) -> Result<(), Difference
         Function::IsFinite32 => one(words, |x: f32| float_order::is_finite(x)),
         Function::SignBit32 => one(words, |x: f32| float_order::sign_bit(x)),
         Function::Widen => one(words, |x: f32| float_widths::widen(x)),
-        Function::SinCos<f32> => both(words, |x: f32| {
+        Function::SinCos32 => both(words, |x: f32| {
             let r = float_sine::sin_cos32(x);
             (r.sin, r.cos)
         }),

@@ -19,6 +19,6 @@ returns c =
     let counts : length p.num_nbrs ≡ most_imaginary = omega arith in
     let nbrs : length p.imag_nbrs ≡ nbr_places = omega arith in
     let b = out_bytes p c.args.to.now c.head_of.ensures c.bytes_of.ensures (head, pairs, slots) (out, idx, counts, nbrs)
-      (three_pasted (put_is c.put.ensures head) (put_is c.put-2.ensures pairs) (put_is c.put-3.ensures slots))
-      (four_pasted (put_is c.put-4.ensures out) (put_is c.put-5.ensures idx) (put_is c.put-6.ensures counts) (put_is c.put-7.ensures nbrs)) in
+    (three_pasted (put_is c.put.ensures head) (put_is c.put-2.ensures pairs) (put_is c.put-3.ensures slots))
+    (four_pasted (put_is c.put-4.ensures out) (put_is c.put-5.ensures idx) (put_is c.put-6.ensures counts) (put_is c.put-7.ensures nbrs)) in
     record { to_after = b.0; long = b.1 }

@@ -15,5 +15,5 @@ returns c =
     let dir : length p.pt_dir ≡ dir_places = omega arith in
     let inv : length p.inv ≡ inv_places = omega arith in
     let b = out_floats p c.args.to.now c.numbers_of.ensures (pairs, dir, inv)
-      (three_pasted (put_is c.put.ensures pairs) (put_is c.put-2.ensures dir) (put_is c.put-3.ensures inv)) in
+    (three_pasted (put_is c.put.ensures pairs) (put_is c.put-2.ensures dir) (put_is c.put-3.ensures inv)) in
     record { to_after = b.0; long = b.1 }
