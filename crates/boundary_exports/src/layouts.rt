@@ -8,6 +8,7 @@ ghost use Rattle.boundary_records.specs.Rows.{rows_of};
 ghost use Rattle.boundary_records.specs.Sessions.{written};
 
 use boundary_records::record::{RecordBytes, RecordFloats, hand_out, taken_in};
+use refusals::number_in;
 
 // `layout_new::new`: its number, and where it is 0 the imaginary count and the record. No float of such a record is a NaN.
 pub fn panner_new(
@@ -22,15 +23,14 @@ pub fn panner_new(
     ensures bytes { bytes.new ≡ written result (record_bytes (new_of positions.now lfe.now).panner) bytes.old }
     ensures floats { floats.new ≡ written result (record_floats (new_of positions.now lfe.now).panner) floats.old }
 {
-    let made = layout_new::new(positions, lfe);
-    let why = made.number;
-    if why != 0 {
-        return why;
+    match layout_new::new(positions, lfe) {
+        Ok(made) => {
+            *imaginary = made.imaginary;
+            hand_out(&made.panner, bytes, floats);
+            0
+        }
+        Err(why) => why.number(),
     }
-    *imaginary = made.imaginary;
-    let p = made.panner;
-    hand_out(p, bytes, floats);
-    0
 }
 
 // `layout_record::num_outputs`: 0 and the count of outputs, or 11 and the count stays as it was.
@@ -39,13 +39,13 @@ pub fn panner_num_outputs(bytes: &RecordBytes, floats: &RecordFloats, count: &mu
     ensures count { count.new ≡ written result (num_outputs_of (record_from bytes.now floats.now)).count count.old }
 {
     let p = taken_in(bytes, floats);
-    let r = layout_record::num_outputs(p);
-    let number = r.number;
-    if number != 0 {
-        return number;
+    match layout_record::num_outputs(&p) {
+        Ok(outputs) => {
+            *count = outputs;
+            0
+        }
+        Err(why) => why.number(),
     }
-    *count = r.count;
-    0
 }
 
 // `row_gains::gains`. A NaN in a row of a record made by hand is computed: its sign and payload are the program's choice, and each is a quiet NaN.
@@ -61,7 +61,8 @@ pub fn panner_gains(
     ensures buffer { out.new ≡ gains_buffer (record_from bytes.now floats.now) az el out.old }
 {
     let p = taken_in(bytes, floats);
-    row_gains::gains(p, az, el, out)
+    let answer = row_gains::gains(&p, az, el, out);
+    number_in(&answer)
 }
 
 // A row for each direction, `width` places each; the record is read once. Of NaNs as `panner_gains`.
@@ -77,7 +78,7 @@ pub fn panner_gains_all(
     ensures buffer { out.new ≡ rows_of (record_from bytes.now floats.now) az.now el.now width out.old }
 {
     let p = taken_in(bytes, floats);
-    boundary_records::directions::rows(p, az, el, width, out);
-    let r = layout_record::num_outputs(p);
-    r.number
+    boundary_records::directions::rows(&p, az, el, width, out);
+    let answer = layout_record::num_outputs(&p);
+    number_in(&answer)
 }

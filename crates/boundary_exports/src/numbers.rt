@@ -28,8 +28,8 @@ pub fn panner_sqrt64_all(src: &[f64], dst: &mut [f64])
 
 // Sine and cosine of each value.
 pub fn panner_sin_cos_all(src: &[f64], sin: &mut [f64], cos: &mut [f64])
-    ensures filled { Filled (min (length src.now) (min (length sin.old) (length cos.old))) (λ i. sin_of (at src.now i)) sin.old sin.new }
-    ensures filled_2 { Filled (min (length src.now) (min (length sin.old) (length cos.old))) (λ i. cos_of (at src.now i)) cos.old cos.new }
+    ensures sines { Filled (min (length src.now) (min (length sin.old) (length cos.old))) (λ i. sin_of (at src.now i)) sin.old sin.new }
+    ensures cosines { Filled (min (length src.now) (min (length sin.old) (length cos.old))) (λ i. cos_of (at src.now i)) cos.old cos.new }
 {
     boundary_arrays::sin_cos_all(src, sin, cos)
 }

@@ -22,15 +22,14 @@ pub fn panner_open(
     ensures bytes { bytes.new ≡ written result (session_bytes (open_of positions.now lfe.now sources).session) bytes.old }
     ensures floats { floats.new ≡ written result (session_floats (open_of positions.now lfe.now sources).session) floats.old }
 {
-    let opened = session_open::open(positions, lfe, sources);
-    let why = opened.number;
-    if why != 0 {
-        return why;
+    match session_open::open(positions, lfe, sources) {
+        Ok(opened) => {
+            *imaginary = opened.imaginary;
+            hand_out(&opened.session, bytes, floats);
+            0
+        }
+        Err(why) => why.number(),
     }
-    *imaginary = opened.imaginary;
-    let s = opened.session;
-    hand_out(s, bytes, floats);
-    0
 }
 
 // `session_calls::place`. Every float travels, and an angle that is not finite is written as +0.
@@ -103,7 +102,9 @@ pub fn panner_place_take_back_all(
     ensures bytes { bytes.new ≡ bytes_left bytes.old (place_take_back (session_from bytes.old floats.old) source az.now el.now) }
     ensures floats { floats.new ≡ floats_left floats.old (place_take_back (session_from bytes.old floats.old) source az.now el.now) }
 {
-    let s = taken_in(bytes, floats);
-    let r = boundary_records::directions::place_take_back(s, source, az, el);
-    leave(r, bytes, floats)
+    let mut s = taken_in(bytes, floats);
+    match boundary_records::directions::place_take_back(&mut s, source, az, el) {
+        Ok(()) => leave(Ok(s), bytes, floats),
+        Err(why) => why.number(),
+    }
 }

@@ -34,8 +34,8 @@ pub extern "C" fn panner_sqrt64_all(src: &[f64], dst: &mut [f64])
 // `boundary_exports::numbers::panner_sin_cos_all`.
 #[unsafe(no_mangle)]
 pub extern "C" fn panner_sin_cos_all(src: &[f64], sin: &mut [f64], cos: &mut [f64])
-    ensures filled { Filled (min (length src.now) (min (length sin.old) (length cos.old))) (λ i. sin_of (at src.now i)) sin.old sin.new }
-    ensures filled_2 { Filled (min (length src.now) (min (length sin.old) (length cos.old))) (λ i. cos_of (at src.now i)) cos.old cos.new }
+    ensures sines { Filled (min (length src.now) (min (length sin.old) (length cos.old))) (λ i. sin_of (at src.now i)) sin.old sin.new }
+    ensures cosines { Filled (min (length src.now) (min (length sin.old) (length cos.old))) (λ i. cos_of (at src.now i)) cos.old cos.new }
 {
     boundary_exports::numbers::panner_sin_cos_all(src, sin, cos)
 }
