@@ -2,7 +2,12 @@
 use crate::ending::check_end;
 use crate::given;
 use crate::report::Difference;
-use session_calls::{Answer, Session};
+use layout_record::no_panner;
+use mix_block::{GAINS, SOURCES};
+use refusals::{Refusal, number_in};
+use session_calls::Session;
+use session_open::Opened;
+use session_standing::PLACES;
 use test_call_words::draws::Draws;
 use test_call_words::sums::Sum;
 use test_lines::{Malformed, Words};
@@ -31,12 +36,22 @@ fn check_number(got: u32, told: u64) -> Result<(), Difference> {
     Err(Difference::Number(got))
 }
 
+// What stands beside a refused open: every call on it is refused.
+fn no_session() -> Session {
+    Session {
+        panner: no_panner(),
+        sources: 0,
+        counts: [0; SOURCES],
+        standing: [0.0; PLACES],
+        starts: [0.0; GAINS],
+    }
+}
+
 impl Calls {
     // No list has begun.
     pub fn none() -> Calls {
-        let opened = session_open::open(&[], &[], 0);
         Calls {
-            session: opened.session,
+            session: no_session(),
             sum: None,
             numbers: [0; 12],
         }
@@ -67,12 +82,15 @@ impl Calls {
     }
 
     // After a call that answers a session, with the number that the line says.
-    fn answered(&mut self, a: Answer, told: u64) -> Result<(), Difference> {
+    fn answered(&mut self, a: Result<Session, Refusal>, told: u64) -> Result<(), Difference> {
         let mut sum = self.listed()?;
-        self.count(&mut sum, a.number);
+        let number = number_in(&a);
+        self.count(&mut sum, number);
         self.sum = Some(sum);
-        self.session = a.session;
-        check_number(a.number, told)
+        if let Ok(session) = a {
+            self.session = session;
+        }
+        check_number(number, told)
     }
 
     // ---- the session is set
@@ -86,12 +104,17 @@ impl Calls {
         let sources = words.read()?;
         let number: u64 = words.read()?;
         let imaginary = told(words)?;
-        let opened = session_open::open(positions, lfe, sources);
-        self.count(&mut sum, opened.number);
+        let answer = session_open::open(positions, lfe, sources);
+        let got = number_in(&answer);
+        let opened = answer.unwrap_or(Opened {
+            imaginary: 0,
+            session: no_session(),
+        });
+        self.count(&mut sum, got);
         sum.word(opened.imaginary as u64);
         self.sum = Some(sum);
         self.session = opened.session;
-        check_number(opened.number, number)?;
+        check_number(got, number)?;
         if opened.imaginary as u64 != imaginary {
             return Err(Difference::Imaginary(opened.imaginary));
         }

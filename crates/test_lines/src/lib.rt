@@ -31,7 +31,7 @@ pub struct Words<'a> {
     pub at: usize,
 }
 
-// The value of a lower-case hexadecimal digit.
+// The value of a lower-case hexadecimal digit. No to_digit of std: it takes capitals too.
 fn digit(c: u8) -> Option<u64>
     ensures { MatchOption result (digit_of c ≡ 16) (λ d. (d ≡ digit_of c) × (d < 16)) }
 {

@@ -13,7 +13,7 @@ pub struct Lines<R> {
     // with its line feed
     line: Vec<u8>,
     pub number: u64,
-    // a read that fails ends the input
+    // a read that fails ends the input; no Option round the reader, which is taken on in each call
     is_ended: bool,
 }
 

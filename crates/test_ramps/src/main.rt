@@ -22,7 +22,7 @@ const NAMES: [(&str, Function); 2] = [
     ("normalized_lerp_gain", Function::NormalizedLerpGain),
 ];
 
-// How a line differs: the first place that does, and what was answered there.
+// How a line differs: the first place that does, and what was answered there. No Option: it is an error, which `?` makes of a malformed line.
 #[derive(Clone, Copy)]
 enum Difference {
     At(usize, Shown),
