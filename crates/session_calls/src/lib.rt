@@ -58,7 +58,7 @@ fn source_refusal(s: &Session, source: usize) -> Result<(), Refusal>
 }
 
 // What refuses a place: the shared refusals, then a full list.
-fn place_refusal(s: &Session, source: usize, az: f32, el: f32) -> Result<(), Refusal>
+pub fn place_refusal(s: &Session, source: usize, az: f32, el: f32) -> Result<(), Refusal>
     ensures { number_in result ≡ number_of s.now (place source az el) }
 {
     source_refusal(s, source)?;
