@@ -11,7 +11,7 @@ ghost use Rattle.mix_gain.specs.Mixed.{normalized_lerp_gain_of};
 ghost use Rattle.lists.specs.Lists.{range};
 ghost use Rattle.boundary_arrays.specs.Arrays.{at, Filled};
 
-// The first n places of dst, each what f answers at it; the others stay.
+// The first n places of dst, each what f answers at it; the others stay. n is the length of the shortest of the caller's slices.
 fn fill_by<T: Copy, F: Fn(usize) -> T>(dst: &mut [T], n: usize, f: F)
     requires room { n ≤ length dst.old }
     requires callable { (i : ℕ) → i < n → F.pre f i }

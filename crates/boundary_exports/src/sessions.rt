@@ -1,4 +1,5 @@
 // A session in two lent arrays. A call takes it in, and where it is accepted hands its own part back; the record's places stay.
+// Place, take back, settle and render are alike but for the call: the C interface has a function for each.
 ghost use Rattle.std.specs.Prelude.{◌≡◌};
 ghost use Rattle.session_history.specs.Calls.{place, take_back, settle, render};
 ghost use Rattle.session_calls.specs.Session.{rendered_buffer};

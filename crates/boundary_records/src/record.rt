@@ -75,7 +75,7 @@ const NO_RECORD: u8 = 255;
 
 // ---- written to the arrays
 
-// Silent, mono, planar, hull.
+// Silent, mono, planar, hull. Not by `From` and `TryFrom`, here and below: the numbers are the C interface's, and the types other crates'.
 fn kind_number(kind: Kind) -> u8
     ensures { result ≡ kind_number kind }
 {
@@ -119,7 +119,7 @@ fn law_number(law: Law) -> u8
     }
 }
 
-// The numbers of the first n pairs, six a pair: start, gap and the law's.
+// The numbers of the first n pairs, six a pair: start, gap and the law's. All forty places are written, so the array comes whole.
 fn numbers_of(ps: &[PlanarPair; OUTPUTS], n: usize) -> [f32; PAIR_FLOATS]
     ensures { result ≡ pair_numbers n ps.now }
 {

@@ -58,7 +58,7 @@ fn spot(slot: u8, dir: [f64; 3]) -> Spot
     }
 }
 
-// The azimuths and slots of n speakers in ascending order of azimuth, equals in slot order, in the array's first places.
+// The azimuths and slots of n speakers in ascending order of azimuth, equals in slot order, in the array's first places: memory is fixed, so a count stands beside the arrays, here and below.
 fn sorted_spots(out: &[u8; 40], dir: &[f64; 120], n: usize) -> [Spot; 40]
     requires { n ≤ 40 }
     ensures are { take n result ≡ ring (speakers_in n out.now dir.now) }

@@ -10,6 +10,8 @@ ghost use Rattle.mix_ramp.specs.Inner.Turns.{steady_turn, ramp_turn};
 // 2^24: up to here every whole number is an f32, and adding 8 to one rounds nothing. Origin: IEEE 754-2019, table 3.5, the 24 digits of binary32.
 const EXACT_COUNTS: usize = 16777216;
 
+// The three functions below take slices of one length, as `ramp_add` cuts them; a struct of the two would say no more than that.
+
 // Every sample at one gain.
 fn steady(dst: &mut [f32], src: &[f32], g: f32)
     requires { length dst.old ≡ length src.now }

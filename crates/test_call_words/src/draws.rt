@@ -39,6 +39,7 @@ pub struct Draws {
 
 impl Draws {
     pub fn from_seed(seed: u64) -> Draws {
+        // a draw of one of three, and no code for one
         let manner = match seed % 3 {
             0 => Manner::Any,
             1 => Manner::Ordinary,

@@ -78,6 +78,8 @@ fn compare<R: Answer>(words: &mut Words<'_>, got: R) -> Result<(), Difference> {
     Err(Difference::Answer(Shown::of(got)))
 }
 
+// A function that calls a closure asks that it may: the clause stands in each of the three below, as no type can keep it.
+
 // One argument and one answer.
 fn one<A: Given, R: Answer, F: Fn(A) -> R>(words: &mut Words<'_>, f: F) -> Result<(), Difference>
     requires { F.IsAlwaysCallable f }

@@ -74,6 +74,7 @@ fn imaginary(words: &mut Words<'_>, p: &mut VbapPanner) -> Result<(), Malformed>
 
 // ---- the record
 
+// The numbers are those of the lists, each tested as it is read; a conversion of its own would be no plainer.
 fn kind(words: &mut Words<'_>) -> Result<Kind, Malformed> {
     Ok(match words.up_to(3)? {
         0 => Kind::Silent,
