@@ -2,7 +2,7 @@
 use Prim.Native.Nat.{ℕ, zero, suc, ◌+◌, ◌-◌, ◌≤◌, ◌<◌}
 use mathlib.Core.Logic.{inl, inr}
 use mathlib.Core.Path.{◌≡◌, refl, sym, ap, subst, ◌∙◌}
-use mathlib.Core.List.{List, [], ◌∷◌, ◌++◌, map, append-nil, append_assoc}
+use mathlib.Core.List.{List, [], ◌∷◌, ◌++◌, map, append_assoc}
 use borrow.Rule.Slice.PartMut.{put_mid, Post-is}
 use denote.Param.Members.{Mut}
 use Rattle.std.specs.Array.{IsFromFnResult, IsFromFnResultFrom}
@@ -11,10 +11,9 @@ use Rattle.std.proofs.lemmas.Bool.{cases_eq}
 use Rattle.std.proofs.lemmas.List.{get_or_default}
 use Rattle.lists.specs.Lists.{range}
 use Rattle.lists.proofs.Ranges.{by_places, drop_places}
-use native.Mathlib.Numerals.{add-one}
 use native.Mathlib.Omega.{arith}
-use lib.ListN.{length, get_or, take, drop, set, length-set, length-append, length-drop, replicate, length-replicate, drop_of_length-le}
-use lib.Seq.{paste-zero, paste-suc, get_or-drop, take_all, take_at, drop_at, drop-drop, take-append-le, drop-append-le}
+use lib.ListN.{length, get_or, take, drop, length-append, length-drop}
+use lib.Seq.{take_all, take_at, drop_at, drop-drop, take-append-le, drop-append-le}
 use Rattle.boundary_records.specs.Inner.Pasted.{pasted, Pasted}
 use Rattle.boundary_records.specs.Records.{section}
 

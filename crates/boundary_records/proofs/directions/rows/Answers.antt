@@ -1,4 +1,3 @@
-use Prim.Native.Nat.{◌+◌, ◌-◌}
 use mathlib.Core.Path.{refl, sym, ◌∙◌}
 use Rattle.boundary_records.proofs.Rows.{rows_full, rows_more, rows_end}
 use native.Mathlib.Omega.{arith}
