@@ -20,8 +20,7 @@ use Rattle.mix_block.specs.Limits.{most_sources}
 use Rattle.session_history.specs.Calls.{Call}
 use Rattle.session_history.specs.History.{Past, beginning, depth, step, history, past}
 use Rattle.session_calls.specs.declared.Session.{Session}
-use Rattle.session_open.specs.declared.Opened.{Opened}
-use Rattle.session_open.specs.Open.{fresh, open_refusal, no_session, open_of}
+use Rattle.session_open.specs.Open.{fresh, open_refusal, no_session, OpenAnswer, open_of}
 use Rattle.session_calls.specs.Session.{malformed_session, number_of, after, after_all}
 use Rattle.theorem_take_back.specs.Demand3.{Alike, Given, opened, history_of, past_of, Comparable, Demand3, Demand3Alike}
 use Rattle.theorem_take_back.specs.Laid.{laid_at, Stands}
@@ -58,7 +57,7 @@ abbrev panner_is : Given → VbapPanner
 panner_is g = panner_of g.positions g.lfe
 
 module _ (g : Given) where
-  answer : (why : ℕ) → Opened
+  answer : (why : ℕ) → OpenAnswer
   answer why =
       cond (eqb why 0)
       (record { number = 0; imaginary = imaginary_in (layout_is g).shape; session = fresh (panner_is g) g.sources })
@@ -70,14 +69,14 @@ module _ (g : Given) where
 
   number_is : (why : ℕ) → (answer why).number ≡ why
   unfolding answer
-  number_is why = answer_number (λ (o : Opened). o.number) why refl refl
+  number_is why = answer_number (λ (o : OpenAnswer). o.number) why refl refl
 
   nothing_refused : open_refusal g.positions g.lfe g.sources ≡ 0
-  nothing_refused = sym (number_is (open_refusal g.positions g.lfe g.sources)) ∙ ap (λ (o : Opened). o.number) (sym open_is) ∙ g.accepted
+  nothing_refused = sym (number_is (open_refusal g.positions g.lfe g.sources)) ∙ ap (λ (o : OpenAnswer). o.number) (sym open_is) ∙ g.accepted
 
   opened_fresh : opened g ≡ fresh (panner_is g) g.sources
   unfolding answer
-  opened_fresh = ap (λ (o : Opened). o.session) (open_is ∙ ap answer nothing_refused)
+  opened_fresh = ap (λ (o : OpenAnswer). o.session) (open_is ∙ ap answer nothing_refused)
 
   new_accepts : ((new_of g.positions g.lfe).number ≡ 0) × (1 ≤ g.sources) × (g.sources ≤ most_sources)
   unfolding open_refusal new_of new_refusal
