@@ -16,6 +16,8 @@ use float_remainder::Field;
 // ---- the two widths
 
 // A float type: binary32 or binary64 of IEEE 754-2019, table 3.5.
+// Functions stand for the operators: what std's `Add`, `Div`, `Neg` and `PartialOrd` promise of a type parameter is each impl's own, and a law for each, that says it by the format, would be no plainer.
+// Each number stands as a constant for the code and as a ghost item for the clauses: a clause can't cite a trait's constant, and the check proves the two equal.
 pub trait Width: Copy {
     // Its format, and a value as the definitions see it.
     ghost format: { Format };
@@ -126,11 +128,11 @@ impl Width for f32 {
     }
 
     fn infinity() -> f32 {
-        1.0 / 0.0
+        f32::INFINITY
     }
 
     fn pattern(self) -> Option<u64> {
-        if self != self {
+        if self.is_nan() {
             return None;
         }
         Some(f32::to_bits(self) as u64)
@@ -200,11 +202,11 @@ impl Width for f64 {
     }
 
     fn infinity() -> f64 {
-        1.0 / 0.0
+        f64::INFINITY
     }
 
     fn pattern(self) -> Option<u64> {
-        if self != self {
+        if self.is_nan() {
             return None;
         }
         Some(f64::to_bits(self))
@@ -280,17 +282,14 @@ pub fn max<W: Width>(x: W, y: W) -> W
 }
 
 // The lesser; the other value for a NaN, and of two NaNs the sum, which is a quiet NaN.
-// Of two zeros document 01 leaves the choice to the program: here the first; every choice is a zero, and it is only ever compared.
+// Of two zeros document 01 leaves the choice to the program: here the first; every choice is a zero. No crate of the panner calls this: it is here since document 01 names a minimum, and test_floats tests it.
 pub fn min32(x: f32, y: f32) -> f32
     ensures { result ≡ min_of x y }
 {
-    if x != x {
-        if y != y {
-            return x + y;
-        }
-        return y;
+    if x.is_nan() {
+        return if y.is_nan() { x + y } else { y };
     }
-    if y != y {
+    if y.is_nan() {
         return x;
     }
     if y < x { y } else { x }
