@@ -1,7 +1,7 @@
 // Document 01, "Number work": widening, narrowing, whole number to float.
 // Every literal that is a format's constant is IEEE 754-2019, table 3.5. binary32: 24 digits (prec), largest exponent 127 (emax), smallest value 2^-149.
-// binary64: 53 digits, largest exponent 1023, smallest value 2^-1074. In a bit pattern the exponent's field weighs 2^23 = 0x80_0000 and 2^52 = 0x10_0000_0000_0000,
-// the sign 2^31 = 0x8000_0000 and 2^63 = 0x8000_0000_0000_0000, and the highest field, of infinities and NaNs, is 255 and 2047.
+// binary64: 53 digits, largest exponent 1023, smallest value 2^-1074; in its bit pattern the exponent's field weighs 2^52 = 0x10_0000_0000_0000,
+// the sign 2^63 = 0x8000_0000_0000_0000, and the highest field, of infinities and NaNs, is 2047. Where both formats are meant, the numbers are those of `Width`.
 #![tactic(auto)]
 
 ghost use Rattle.std.specs.Prelude.{◌≡◌, ◌+◌, ◌-◌, ◌*◌, ◌/◌, ◌%◌, ◌^◌, ◌<◌, ◌≤◌, ◌&&◌, ◌||◌, pos, if◌then◌else◌, ◌==◌, nat_eq};
@@ -25,10 +25,7 @@ pub fn widen(x: f32) -> f64
 fn carry(d: u64, more: bool) -> u64
     ensures { result ≡ (if nat_eq (d % 2) 1 && (more || d / 2 % 2 == 1) then 1 else 0) }
 {
-    if (d % 2 == 1) & (more | (d / 2 % 2 == 1)) {
-        return 1;
-    }
-    0
+    u64::from((d % 2 == 1) & (more | (d / 2 % 2 == 1)))
 }
 
 // m / 2^sh to the nearest whole number, a tie to the even one.
@@ -100,7 +97,7 @@ fn pack32_normal(neg: bool, m: u64, k: u32) -> f32
 pub fn narrow(x: f64) -> f32
     ensures { result ≡ narrow_of x }
 {
-    if x != x {
+    if x.is_nan() {
         return 0.0 / 0.0;
     }
     let b = f64::to_bits(x);
@@ -109,7 +106,11 @@ pub fn narrow(x: f64) -> f32
     let e = b % 0x8000_0000_0000_0000 / 0x10_0000_0000_0000;
     let t = b % 0x10_0000_0000_0000;
     if e == 2047 {
-        if neg { -1.0 / 0.0 } else { 1.0 / 0.0 }
+        if neg {
+            f32::NEG_INFINITY
+        } else {
+            f32::INFINITY
+        }
     } else if e == 0 {
         pack32(neg, t, 0)
     } else if e > 896 {

@@ -4,11 +4,11 @@ use lib.Ieee.{Float, nan, inf, fin, binary32, binary64, up, down, round, fits, d
 use lib.Ieee.Fits.{down_pos}
 use lib.Ieee.Exact.{HasValue}
 use lib.Ieee.Scale.{round_same}
-use lib.Ieee.Compare.{differs_from_itself}
 use Rattle.float_widths.specs.Narrow.{narrow_of}
-use Rattle.float_order.proofs.Read.{nan_not, value_low, value_mid, value_top}
+use Rattle.float_order.proofs.Order.{is_nan-is}
+use Rattle.float_order.proofs.Read.{value_low, value_mid, value_top}
 use Rattle.float_widths.proofs.narrow.Goals as goal
-use Rattle.float_widths.proofs.narrow.Goals.{Else-x, Start}
+use Rattle.float_widths.proofs.narrow.Goals.{Else-is_nan, Start}
 
 -- by any fraction that the value equals
 by_value : (x : Float) (s : Bool) (a c : ℕ) → 0 < c → HasValue x s a c → round binary32 s a c ≡ narrow_of x
@@ -29,12 +29,12 @@ of_inf x s t e p = sym (ap narrow_of e ∙ ap inf p)
 held : (c : Start) → T (fits binary64 c.args.x)
 held c = subst T (sym c.well_formed.0.1) tt
 
-real : (c : Else-x) → T (not (is_nan c.args.x))
-real c = nan_not c.args.x c.if-x.false
+real : (c : Else-is_nan) → T (not (is_nan c.args.x))
+real c = subst (λ (b : Bool). T (not b)) (sym c.if-is_nan.false ∙ c.is_nan.ensures.value) tt
 
-pub returns-then-x : goal.returns-then-x
+pub returns-then-is_nan : goal.returns-then-is_nan
 unfolding div of_bits
-returns-then-x c = of_nan c.args.x (differs_from_itself c.args.x (subst T (sym c.if-x.true) tt))
+returns-then-is_nan c = of_nan c.args.x (is_nan-is c.args.x (sym c.is_nan.ensures.value ∙ c.if-is_nan.true))
 
 pub float_to_bits-b : goal.float_to_bits-b
 float_to_bits-b c = real c
@@ -42,12 +42,12 @@ float_to_bits-b c = real c
 pub returns-then-neg : goal.returns-then-neg
 unfolding div neg of_bits
 returns-then-neg c =
-    of_inf c.args.x _ true (value_top binary64 c.args.x (held (goal.at.returns-then-neg c).Start) c.if-e-eq2047.true (real (goal.at.returns-then-neg c).Else-x)) c.if-neg.true-raw
+    of_inf c.args.x _ true (value_top binary64 c.args.x (held (goal.at.returns-then-neg c).Start) c.if-e-eq2047.true (real (goal.at.returns-then-neg c).Else-is_nan)) c.if-neg.true-raw
 
 pub returns-else-neg : goal.returns-else-neg
 unfolding div of_bits
 returns-else-neg c =
-    of_inf c.args.x _ false (value_top binary64 c.args.x (held (goal.at.returns-else-neg c).Start) c.if-e-eq2047.true (real (goal.at.returns-else-neg c).Else-x)) c.if-neg.false-raw
+    of_inf c.args.x _ false (value_top binary64 c.args.x (held (goal.at.returns-else-neg c).Start) c.if-e-eq2047.true (real (goal.at.returns-else-neg c).Else-is_nan)) c.if-neg.false-raw
 
 pub returns-then-e-eq0 : goal.returns-then-e-eq0
 returns-then-e-eq0 c =
