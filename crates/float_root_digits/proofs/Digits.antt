@@ -1,7 +1,6 @@
 -- The digits of a root: a candidate is tested by the parts of its square. Assumes nothing.
 use Rattle.std.proofs.Common.{◌≡◌, ℕ, ◌+◌, ◌-◌, ◌*◌, ◌/◌, ◌%◌, ◌^◌, ◌<◌, ◌≤◌, sym, ap, ◌∙◌, inl, inr, mod-eq_of_lt, mul_comm, add-mul, eq-zero-or-pos, mul-le-mul, mul-one, mul-add, mul_right_comm, arith}
 use native.Mathlib.Nat.{mul-mul-mul_comm}
-use Rattle.float_widths.proofs.Grid.{le_or_lt}
 
 -- q is the root of n to the nearest whole number
 abbrev pub IsNearest : ℕ → ℕ → Type 0
@@ -55,10 +54,6 @@ pub record Steps (n q a b upper mixed lower : ℕ) : Type 0 where
 -- together: lower is n * 2 ^ 52 - q * q + q - 1
 pub stepped : {n q a b upper mixed lower : ℕ} → Halves q a b → Steps n q a b upper mixed lower → lower < q * 2 → IsNearest (n * 2 ^ 52) q
 stepped h s l = (omega (arith, h.square, s.first, s.second, s.third), omega (arith, h.square, s.first, s.second, s.third))
-
--- ---- the 24 digits of a candidate: a carry to 2 ^ 24 is no root
-pub no_carry : (n q : ℕ) → n < 2 ^ 25 - 1 → q * q < n * 2 ^ 23 + q → q ≤ 2 ^ 24 → q < 2 ^ 24
-no_carry n q N h l = elim (le_or_lt (2 ^ 24) q) [ inl g ↦ let s = mul-le-mul g g in omega arith | inr g ↦ g ]
 
 -- ---- m digits, twice where the exponent's field e is even, so that what is left of the exponent is even
 module _ (m i : ℕ) where

@@ -61,15 +61,11 @@ fn is_root52(n: u64, q: u64) -> bool
     lower < q * 2
 }
 
-// The digits of g where they are the root of n * 2^52 to the nearest whole number.
-// One side is promised: some digits are the root's, and those of g. That a good guess has some is left open, and nothing rests on it: `float_root` then finds the digits one by one.
-// It has no form with the 32 bits' below: there the squares fit a word, and the digits of g are rounded first.
-pub fn root_digits64(n: u64, g: f64) -> Option<u64>
-    requires { n < 2 ^ 54 }
-    ensures own { IfSome result (λ q. to_bits binary64 g ≡ 1022 * 2 ^ 52 + q) }
-    ensures root { IfSome result (λ q. (2 ^ 52 ≤ q) × (q < 2 ^ 53) × (q * q < n * 2 ^ 52 + q) × (n * 2 ^ 52 ≤ q * q + q)) }
+// The 53 digits of a g from 1 to 2.
+fn digits_in(g: f64) -> Option<u64>
+    ensures { IfSome result (λ q. (2 ^ 52 ≤ q) × (q < 2 ^ 53) × (to_bits binary64 g ≡ 1022 * 2 ^ 52 + q)) }
 {
-    if g != g {
+    if g.is_nan() {
         return None;
     }
     let p = f64::to_bits(g);
@@ -78,7 +74,18 @@ pub fn root_digits64(n: u64, g: f64) -> Option<u64>
         return None;
     }
     // Origin: 1022 * 2^52; the pattern less that is the leading digit and those below
-    let q = p - 0x3fe0_0000_0000_0000;
+    Some(p - 0x3fe0_0000_0000_0000)
+}
+
+// The digits of g where they are the root of n * 2^52 to the nearest whole number.
+// One side is promised: some digits are the root's, and those of g. That a good guess has some is left open, and nothing rests on it: `float_root` then finds the digits one by one.
+// It has no form with the 32 bits' below: there the squares fit a word, and the digits of g are rounded first.
+pub fn root_digits64(n: u64, g: f64) -> Option<u64>
+    requires { n < 2 ^ 54 }
+    ensures own { IfSome result (λ q. to_bits binary64 g ≡ 1022 * 2 ^ 52 + q) }
+    ensures root { IfSome result (λ q. (2 ^ 52 ≤ q) × (q < 2 ^ 53) × (q * q < n * 2 ^ 52 + q) × (n * 2 ^ 52 ≤ q * q + q)) }
+{
+    let q = digits_in(g)?;
     if is_root52(n, q) {
         return Some(q);
     }
@@ -90,23 +97,12 @@ pub fn root_digits32(n: u64, g: f64) -> Option<u64>
     requires { n < 2 ^ 25 - 1 }
     ensures { IfSome result (λ q. (2 ^ 23 ≤ q) × (q < 2 ^ 24) × (q * q < n * 2 ^ 23 + q) × (n * 2 ^ 23 ≤ q * q + q)) }
 {
-    if g != g {
-        return None;
-    }
-    let p = f64::to_bits(g);
-    // Origin: 1023, the exponent's field from 1 to 2
-    if p / 0x10_0000_0000_0000 != 1023 {
-        return None;
-    }
-    // Origin: 1022 * 2^52; the pattern less that is the leading digit and those below. Of 53 digits 29 go, and 2^28 is a half of the last that stays
-    let q = (p - 0x3fe0_0000_0000_0000 + 0x1000_0000) / 0x2000_0000;
+    // Origin: of 53 digits 29 go, and 2^28 is a half of the last that stays
+    let q = (digits_in(g)? + 0x1000_0000) / 0x2000_0000;
     let s = q * q;
     // Origin: 2^23
     let m = n * 0x80_0000;
-    if m + q <= s {
-        return None;
-    }
-    if s + q < m {
+    if (m + q <= s) | (s + q < m) {
         return None;
     }
     Some(q)
