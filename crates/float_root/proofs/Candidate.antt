@@ -12,6 +12,8 @@ use lib.Ieee.{Float, Format, binary32, binary64, prec, emax, low, nearest, units
 use lib.Ieee.Bits.{of_bits-to_bits}
 use lib.Ieee.Nearest.{closest}
 use Rattle.float_root.specs.Root.{round_root, sqrt_of}
+use Rattle.float_order.specs.Width.{Weights}
+use Rattle.float_order.proofs.Weights.{at_weights}
 use Rattle.float_order.proofs.Laws.{is_lt, is_gt, closest_by, of_pattern, pattern_no_nan}
 use Rattle.float_widths.proofs.Grid.{le_or_lt}
 use Rattle.float_root_digits.proofs.Squares.{sq_lt, sq_suc, sq_twice}
@@ -131,6 +133,15 @@ low_pattern p lo hi =
   where
     sum : (p : ℕ) → 2 ^ 52 ≤ p → 0 + ((p / 2 ^ 52 - 1) * 2 ^ 52 + (p % 2 ^ 52 + 2 ^ 52)) ≡ p
     sum p h = omega arith
+
+-- a pattern scaled to a value from 1 to 4: the digits and the field's last one, moved up, with the field 1023 or 1024
+scaled_at : (f : Format) (b : ℕ) → T (not (nan_bits binary64 ((b % (hid f * 2) + hid f) % (hid f * 2) * (0x10_0000_0000_0000 / hid f) + 0x3ff0_0000_0000_0000)))
+scaled_at binary32 b = low_pattern ((b % 2 ^ 24 + 2 ^ 23) % 2 ^ 24 * 2 ^ 29 + 0x3ff0_0000_0000_0000) (omega arith) (omega arith)
+scaled_at binary64 b = low_pattern ((b % 2 ^ 53 + 2 ^ 52) % 2 ^ 53 * 1 + 0x3ff0_0000_0000_0000) (omega arith) (omega arith)
+
+pub scaled_pattern : {f : Format} {S H O : ℕ} → Weights f S H O → (b : ℕ) → T (not (nan_bits binary64 ((b % (H * 2) + H) % (H * 2) * (0x10_0000_0000_0000 / H) + 0x3ff0_0000_0000_0000)))
+scaled_pattern {f} w b =
+    at_weights w (λ (s h o : ℕ). T (not (nan_bits binary64 ((b % (h * 2) + h) % (h * 2) * (0x10_0000_0000_0000 / h) + 0x3ff0_0000_0000_0000)))) (scaled_at f b)
 
 -- ---- a value from 1 to 2 is put together from its own digits
 pub own_digits : (g : Float) (q : ℕ) → T (fits binary64 g) → to_bits binary64 g ≡ 1022 * 2 ^ 52 + q → 2 ^ 52 ≤ q → q < 2 ^ 53 → g ≡ units binary64 false q 1022

@@ -1,8 +1,11 @@
 -- `float_root::root_parts` meets its contract: 55 digits of the root and one that says whether anything is left round as the root does. Assumes nothing.
-use mathlib.Core.Path.{◌≡◌, refl, sym, ap, ◌∙◌, subst}
-use mathlib.Core.Bool.{false}
-use Prim.Native.Nat.{ℕ, suc, ◌+◌, ◌-◌, ◌*◌, ◌/◌, ◌%◌, ◌^◌, ◌≤◌, ◌<◌}
-use native.Mathlib.Nat.{le_trans, le_of_eq, lt_of_lt_of_le, mod-eq_of_lt, mul_assoc, mul_comm, mul-le-mul_right, add-zero}
+use mathlib.Core.Path.{◌≡◌, sym, ap, ◌∙◌, subst}
+use mathlib.Core.Bool.{Bool, false, not}
+use lib.Dec.{eqb}
+use borrow.Author.Tests.{ne_eqb}
+use mir.Val.{bool_byte}
+use Prim.Native.Nat.{ℕ, zero, suc, ◌+◌, ◌-◌, ◌*◌, ◌/◌, ◌%◌, ◌^◌, ◌≤◌, ◌<◌}
+use native.Mathlib.Nat.{le_trans, le_of_eq, lt_of_lt_of_le, mod-eq_of_lt, mul_assoc, mul_comm, mul-le-mul_right}
 use native.Mathlib.Omega.{arith}
 use lib.Count.{count_leading_zeros, leading_top}
 use lib.Pow.{pow-add, pow_pos, pow_mono, shl_lt}
@@ -139,16 +142,15 @@ overflow_shl-m c = let s = zs c in omega arith
 pub root_by_digits-r-requires : goal.root_by_digits-r-requires
 root_by_digits-r-requires c = le_trans (al c).0 (le_of_eq (sym (same c)))
 
-pub returns-then-r-eq0 : goal.returns-then-r-eq0
-returns-then-r-eq0 c =
-    let z0 : c.root_by_digits-r.result.rem ≡ 0 = c.if-r-eq0.true in
-    final (goal.at.returns-then-r-eq0 c).Start c.root_by_digits-r.result.root c.root_by_digits-r.result.rem 0 c.round_shift.result c.root_by_digits-r.ensures ((λ _. refl), (λ h. absurd (none c.root_by_digits-r.result.rem z0 h))) (omega arith)
-    (c.round_shift.ensures ∙ ap (λ (x : ℕ). closest x (2 ^ (c.args.dropped + 1))) (sym (add-zero (c.root_by_digits-r.result.root * 2))))
-  where
-    none : (x : ℕ) → x ≡ 0 → 0 < x → ⊥
-    none x a b = omega arith
+-- 1 where something is left
+stuck : (rem st : ℕ) → st ≡ bool_byte (not (eqb rem 0)) → Sticky rem st × (st ≤ 1)
+stuck zero st e = (((λ _. e), (λ h. absurd (omega arith))), omega arith)
+stuck (suc n) st e =
+    let one : st ≡ 1 = e ∙ ap (λ (b : Bool). bool_byte (not b)) (ne_eqb (suc n) 0 (λ (h : suc n ≡ 0). omega arith)) in
+    (((λ h. absurd (omega arith)), (λ _. one)), omega arith)
 
-pub returns-else-r-eq0 : goal.returns-else-r-eq0
-returns-else-r-eq0 c =
-    let z0 : c.root_by_digits-r.result.rem ≡ 0 → ⊥ = c.if-r-eq0.false in
-    final (goal.at.returns-else-r-eq0 c).Start c.root_by_digits-r.result.root c.root_by_digits-r.result.rem 1 c.round_shift-else-r-eq0.result c.root_by_digits-r.ensures ((λ h. absurd (z0 h)), (λ _. refl)) (omega arith) c.round_shift-else-r-eq0.ensures
+pub returns : goal.returns
+returns c =
+    let r = c.root_by_digits-r.result in
+    let s = stuck r.rem c.from-more.result c.from-more.ensures in
+    final (goal.at.returns c).Start r.root r.rem c.from-more.result c.round_shift.result c.root_by_digits-r.ensures s.0 s.1 c.round_shift.ensures

@@ -4,18 +4,14 @@ use Prim.Native.Nat.{◌+◌, ◌/◌, ◌%◌, ◌^◌}
 use native.Mathlib.Omega.{arith}
 use lib.Dec.{T}
 use lib.Ieee.{binary32, to_bits}
-use lib.Ieee.Compare.{differs_from_itself}
-use Rattle.float_order.proofs.Read.{nan_not}
+use Rattle.float_order.proofs.Order.{is_nan-is}
 use Rattle.float_root.proofs.Sqrt.{sqrt_nan}
 use Rattle.float_root.proofs.Candidate.{quick_root}
 use Rattle.float_root_digits.proofs.Digits.{doubled}
 use Rattle.float_root.proofs.sqrt32.Goals as goal
 
-pub returns-then-x : goal.returns-then-x
-returns-then-x c = sqrt_nan binary32 c.args.x (differs_from_itself c.args.x (subst T (sym c.if-x.true) tt))
-
-pub float_to_bits-b : goal.float_to_bits-b
-float_to_bits-b c = nan_not _ c.if-x.false
+pub returns-then-is_nan : goal.returns-then-is_nan
+returns-then-is_nan c = sqrt_nan binary32 c.args.x (is_nan-is c.args.x (sym c.is_nan.ensures.value ∙ c.if-is_nan.true))
 
 pub root_digits32-requires : goal.root_digits32-requires
 root_digits32-requires c =

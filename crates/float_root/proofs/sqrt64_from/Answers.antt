@@ -5,9 +5,8 @@ use Prim.Native.Nat.{◌+◌, ◌/◌, ◌%◌, ◌^◌}
 use native.Mathlib.Omega.{arith}
 use lib.Dec.{T}
 use lib.Ieee.{binary64, units, to_bits}
-use lib.Ieee.Compare.{differs_from_itself}
 use Rattle.float_root.specs.Root.{sqrt_of}
-use Rattle.float_order.proofs.Read.{nan_not}
+use Rattle.float_order.proofs.Order.{is_nan-is}
 use Rattle.float_root.proofs.Sqrt.{sqrt_nan}
 use Rattle.float_root.proofs.Candidate.{own_digits, quick_root}
 use Rattle.float_root_digits.proofs.Digits.{doubled}
@@ -21,11 +20,8 @@ passed c =
     quick_root binary64 c.args.x (subst T (sym c.well_formed.0.1) tt) c.even_digits-n.result c.in-Some.q c.if-e-eq0.false c.if-e-ge2047.false
     c.even_digits-n.ensures (r.2, r.3) r.0 r.1
 
-pub returns-then-x : goal.returns-then-x
-returns-then-x c = sqrt_nan binary64 c.args.x (differs_from_itself c.args.x (subst T (sym c.if-x.true) tt))
-
-pub float_to_bits-b : goal.float_to_bits-b
-float_to_bits-b c = nan_not _ c.if-x.false
+pub returns-then-is_nan : goal.returns-then-is_nan
+returns-then-is_nan c = sqrt_nan binary64 c.args.x (is_nan-is c.args.x (sym c.is_nan.ensures.value ∙ c.if-is_nan.true))
 
 pub root_digits64-requires : goal.root_digits64-requires
 root_digits64-requires c =
