@@ -86,7 +86,8 @@ struct Turn {
 }
 
 // The whole number k nearest q, of a q from -4 to 4, and k mod 4.
-// Origin: document 01, "Number work": k - 1/2 <= q < k + 1/2, so the tests are at k + 1/2 for k from -4 to 3. A table of them is no plainer: each has its k, its quarter and the bound.
+// Origin: document 01, "Number work": k - 1/2 <= q < k + 1/2, so the tests are at k + 1/2 for k from -4 to 3.
+// Not a table of bounds and turns: tried in a Rust copy, `sin_cos` with `for (bound, turn) in TURNS { if q < bound { return turn; } }` took 23.8 ns in place of 20.0.
 fn turn_of(q: f64) -> Turn
     ensures { T (le (abs q) 4·0) → (result.k ≡ of_int binary64 (nearest_whole q)) × (number_of result.quarter ≡ mod4 (nearest_whole q)) }
 {
