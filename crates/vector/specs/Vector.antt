@@ -82,9 +82,13 @@ unfoldable pub dir_vec_of : Float → Float → Vector
 dir_vec_of az el =
     mul binary32 (sin32_of az) (cos32_of el) ∷ sin32_of el ∷ mul binary32 (neg (cos32_of az)) (cos32_of el) ∷ []
 
+-- the three places from p * 3 on, with d where a place is none
+unfoldable pub places_in : {A : Type 0} → A → List A → ℕ → List A
+places_in d flat p = get_or flat (p * 3) d ∷ get_or flat (p * 3 + 1) d ∷ get_or flat (p * 3 + 2) d ∷ []
+
 -- point p of a flat array, three numbers a point, as it is read; and the first n points
 unfoldable pub point_in : List Float → ℕ → Vector
-point_in flat p = get_or flat (p * 3) nan ∷ get_or flat (p * 3 + 1) nan ∷ get_or flat (p * 3 + 2) nan ∷ []
+point_in flat p = places_in nan flat p
 
 unfoldable pub points_in : ℕ → List Float → Points
 points_in n flat = map (part 3 flat) (range n)

@@ -3,7 +3,7 @@
 
 ghost use Rattle.std.specs.Prelude.{◌≡◌, ◌+◌, ◌*◌, ◌≤◌, length};
 ghost use Rattle.lists.specs.Lists.{part};
-ghost use Rattle.vector.specs.Vector.{dot_of, cross_of, less_of, over_of, negated_of, length_of, unit_of, dir_vec_of, point_in};
+ghost use Rattle.vector.specs.Vector.{dot_of, cross_of, less_of, over_of, negated_of, length_of, unit_of, dir_vec_of, places_in};
 
 // Origin: vbap.rs line 158; a shorter position has no direction.
 const SHORTEST: f64 = 1e-6;
@@ -27,11 +27,7 @@ pub fn unit(p: [f32; 3]) -> Option<[f64; 3]>
 fn widened(p: [f32; 3]) -> [f64; 3]
     ensures { result ≡ p }
 {
-    [
-        float_widths::widen(p[0]),
-        float_widths::widen(p[1]),
-        float_widths::widen(p[2]),
-    ]
+    p.map(|x| float_widths::widen(x))
 }
 
 #[tactic(auto, unfolding(crate::specs::Vector::cross_of, crate::specs::Vector::minor))]
@@ -85,9 +81,9 @@ pub fn length64(a: [f64; 3]) -> f64
 }
 
 // Point i of a flat array, three numbers a point.
-pub fn point(flat: &[f64], i: usize) -> [f64; 3]
+pub fn point<T: Copy>(flat: &[T], i: usize) -> [T; 3]
     requires { i * 3 + 3 ≤ length flat.now }
-    ensures read { result ≡ point_in flat.now i }
+    ensures read { (d : T) → result ≡ places_in d flat.now i }
     ensures part { result ≡ part 3 flat.now i }
 {
     [flat[i * 3], flat[i * 3 + 1], flat[i * 3 + 2]]

@@ -1,13 +1,9 @@
 -- `vector::point` meets its contract: it reads the three places, which are the array's part. Assumes nothing.
-use Rattle.std.proofs.Common.{refl, sym}
-use lib.Ieee.{nan}
-use Rattle.lists.proofs.Parts.{part_three}
-use Rattle.vector.specs.Vector.{point_in}
+use Rattle.vector.proofs.Points.{three_read, three_part}
 use Rattle.vector.proofs.point.Goals as goal
 
 pub returns-clause-read : goal.returns-clause-read
-unfolding point_in
-returns-clause-read c = refl
+returns-clause-read g c = three_read _ _ c.requires c.index-flat-i.is c.index-flat-i-2.is c.index-flat-i-3.is
 
 pub returns-clause-part : goal.returns-clause-part
-returns-clause-part c = sym (part_three _ _ nan c.requires)
+returns-clause-part g c = three_part _ _ c.requires c.index-flat-i.is c.index-flat-i-2.is c.index-flat-i-3.is
