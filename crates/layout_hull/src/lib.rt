@@ -17,7 +17,7 @@ const LEAST_DETERMINANT: f64 = 1e-9;
 // How many triplets a hull may have. Origin: document 01, refusal 4.
 const MOST_TRIPLETS: usize = 80;
 
-// The triplets of a hull laid flat (the source's `tris`), whether there were more than 80, and whether they tile the sphere (the source's `tiled`). Triplets stand there whatever the two flags say, so neither makes an Option of the rest.
+// The triplets of a hull laid flat (the source's `tris`), whether there were more than 80, and whether they tile the sphere (the source's `tiled`). Triplets stand there whatever the two flags say, so neither makes an Option of the rest. `over` is a flag and no Result: `hull_triplets` and `layout_closing::close` promise a hull for all points, and cannot fail.
 #[derive(Clone, Copy)]
 pub struct Hull {
     pub idx: [u8; 240],
@@ -39,11 +39,7 @@ fn determinant(a: [f64; 3], b: [f64; 3], c: [f64; 3]) -> f64
 fn row(r: [f64; 3], det: f64) -> [f32; 3]
     ensures { result ≡ row_of r det }
 {
-    [
-        float_widths::narrow(r[0] / det),
-        float_widths::narrow(r[1] / det),
-        float_widths::narrow(r[2] / det),
-    ]
+    r.map(|x| float_widths::narrow(x / det))
 }
 
 // The inverse of the matrix of three points, whose determinant is det.
@@ -94,6 +90,7 @@ pub fn hull_triplets(pts: &[[f64; 3]]) -> Hull
         // Origin of 4: vbap.rs line 264
         enclosed: 4 <= n,
     };
+    // nested loops with labels: the form that document 01 names
     'first: for i in 0..n {
         'second: for j in i + 1..n {
             'third: for k in j + 1..n {
