@@ -2,7 +2,7 @@
 // Lengths of arrays: 40 outputs, pairs, planar slots, real points and neighbours of one, 80 triplets and 14 imaginary points (document 01, "Returned numbers", 11). Three numbers a direction are 120; 3 point numbers and 9 inverse entries a triplet, 240 and 720; 14 lists of 40 neighbours, 560.
 #![tactic(auto)]
 
-ghost use Rattle.std.specs.Prelude.{◌≡◌, true, ◌+◌, ◌*◌, ◌≤◌, leb, take};
+ghost use Rattle.std.specs.Prelude.{◌≡◌, true, ◌+◌, ◌*◌, ◌≤◌, ◌<◌, leb, take, get_or};
 ghost use mathlib.Core.List.{[], ◌∷◌, map, flat_map};
 ghost use Rattle.lists.specs.Lists.{range, every};
 ghost use Rattle.layout_record.specs.Panner.{no_panner, near_in};
@@ -10,6 +10,7 @@ ghost use Rattle.layout_record.specs.Malformed.{any_from, planar_out, hull_out, 
 
 use layout_planar::PlanarPair;
 use refusals::Refusal;
+use vector::MAX_IMAGINARY;
 
 // Which of the four layouts stands; the fields beside it hold the rest. Document 01 names the form, "a plain kind beside arrays".
 #[derive(Clone, Copy)]
@@ -43,11 +44,11 @@ pub struct VbapPanner {
     pub inv: [f32; 720],
     // hull: neighbour j of imaginary point k at k * 40 + j
     pub num_imag: u8,
-    pub num_nbrs: [u8; 14],
+    pub num_nbrs: [u8; MAX_IMAGINARY],
     pub imag_nbrs: [u8; 560],
 }
 
-// The record beside a refusal: every place holds 0, +0 or the crossfade.
+// A blank record, silent: every place holds 0, +0 or the crossfade.
 pub fn no_panner() -> VbapPanner
     ensures { result ≡ no_panner }
 {
@@ -67,8 +68,45 @@ pub fn no_panner() -> VbapPanner
         idx: [0; 240],
         inv: [0.0; 720],
         num_imag: 0,
-        num_nbrs: [0; 14],
+        num_nbrs: [0; MAX_IMAGINARY],
         imag_nbrs: [0; 560],
+    }
+}
+
+// ---- what is used of the arrays. A record made by hand may have any counts, so its type can't keep that they are within the arrays: each part asks for its own count.
+
+impl VbapPanner {
+    // The pairs of a ring.
+    pub fn ring_pairs(&self) -> &[PlanarPair]
+        requires { self.now.num_pairs ≤ 40 }
+        ensures { result.now ≡ take self.now.num_pairs self.now.pairs }
+    {
+        &self.pairs[..self.num_pairs as usize]
+    }
+
+    // The slots of a ring's speakers.
+    pub fn ring_slots(&self) -> &[u8]
+        requires { self.now.num_slots ≤ 40 }
+        ensures { result.now ≡ take self.now.num_slots self.now.slots }
+    {
+        &self.slots[..self.num_slots as usize]
+    }
+
+    // The slots of a hull's real points.
+    pub fn real_slots(&self) -> &[u8]
+        requires { self.now.num_real ≤ 40 }
+        ensures { result.now ≡ take self.now.num_real self.now.pt_out }
+    {
+        &self.pt_out[..self.num_real as usize]
+    }
+
+    // The neighbours of imaginary point k.
+    pub fn neighbours(&self, k: usize) -> &[u8]
+        requires { (k < 14) × (get_or self.now.num_nbrs k 0 ≤ 40) }
+        ensures { result.now ≡ near_in self.now.num_nbrs self.now.imag_nbrs k }
+    {
+        let from = k * 40;
+        &self.imag_nbrs[from..from + self.num_nbrs[k] as usize]
     }
 }
 
@@ -101,7 +139,7 @@ fn neighbours_over(p: &VbapPanner, bound: u8) -> bool
         return false;
     }
     for k in 0..p.num_imag as usize {
-        if over(&p.imag_nbrs[k * 40..k * 40 + p.num_nbrs[k] as usize], bound) {
+        if over(p.neighbours(k), bound) {
             return true;
         }
     }
@@ -115,8 +153,7 @@ pub fn planar_over(p: &VbapPanner) -> bool
     requires { (p.now.num_pairs ≤ 40) × (p.now.num_slots ≤ 40) }
     ensures { result ≡ planar_out p.now.num_outputs (take p.now.num_pairs p.now.pairs) (take p.now.num_slots p.now.slots) }
 {
-    pairs_over(&p.pairs[..p.num_pairs as usize], p.num_outputs)
-        | over(&p.slots[..p.num_slots as usize], p.num_outputs)
+    pairs_over(p.ring_pairs(), p.num_outputs) | over(p.ring_slots(), p.num_outputs)
 }
 
 // The same of a hull, or a used point number not below real plus imaginary.
@@ -124,14 +161,14 @@ pub fn hull_over(p: &VbapPanner) -> bool
     requires { (p.now.num_real ≤ 40) × (p.now.num_imag ≤ 14) × (p.now.num_tris ≤ 80) × (every (λ n. leb n 40) p.now.num_nbrs ≡ true) }
     ensures { result ≡ hull_out p.now.num_outputs (p.now.num_real + p.now.num_imag) (take p.now.num_real p.now.pt_out) (map (near_in p.now.num_nbrs p.now.imag_nbrs) (range p.now.num_imag)) (take (p.now.num_tris * 3) p.now.idx) }
 {
-    over(&p.pt_out[..p.num_real as usize], p.num_outputs)
+    over(p.real_slots(), p.num_outputs)
         | neighbours_over(p, p.num_outputs)
         | over(&p.idx[..p.num_tris as usize * 3], p.num_real + p.num_imag)
 }
 
 // ---- malformed
 
-// Whether a count is over its array. Origin of the bounds: document 01, "Returned numbers"; 41 is one more than 40 neighbours.
+// Whether a count is over its array. Origin of the bounds: document 01, "Returned numbers"; 41 is one more than 40 neighbours. 80 is layout_hull's number for triplets, which that crate keeps to itself.
 pub fn counts_over(p: &VbapPanner) -> bool
     ensures { result ≡ counts_over p.now }
 {
@@ -140,7 +177,7 @@ pub fn counts_over(p: &VbapPanner) -> bool
         | (40 < p.num_pairs)
         | (40 < p.num_slots)
         | (80 < p.num_tris)
-        | (14 < p.num_imag)
+        | (MAX_IMAGINARY < p.num_imag as usize)
         | over(&p.num_nbrs, 41)
 }
 
