@@ -1,12 +1,10 @@
 -- Laws of the steps: a gain in a slot, in a sum, shared out from the front. Each goes place by place. Assumes nothing.
-use Prim.Native.Nat.{ℕ, zero, suc, ◌+◌, ◌-◌, ◌*◌, ◌≤◌, ◌<◌}
+use Prim.Native.Nat.{ℕ, zero, suc, ◌+◌, ◌≤◌, ◌<◌}
 use mathlib.Core.Bool.{Bool, true, false, ◌&&◌, not}
 use mathlib.Core.Path.{◌≡◌, refl, sym, ap, ◌∙◌, subst}
 use mathlib.Core.List.{List}
 use native.Mathlib.Numerals.{add-one}
-use native.Mathlib.Omega.{arith}
-use lib.ListN.{length, get_or, take, drop, replicate, get_or-replicate, get_or-eq_default}
-use lib.Seq.{take-take}
+use lib.ListN.{length, get_or, take, replicate, get_or-replicate, get_or-eq_default}
 use lib.Dec.{eqb, ltb}
 use lib.Ieee.{Float, nan, binary32, div, lt}
 use borrow.Author.Tests.{lt-ltb, ltb-true, ltb-false}
@@ -44,12 +42,9 @@ module _ (counts nbrs : List ℕ) (imag row : List Float) where
   unfolding shared_out
   shared_none = sym (fold_none (shared_at counts nbrs imag) row)
 
-  pub shared_more : (k : ℕ) → get_or counts k 0 ≤ 40 → shared_by (take (k * 40 + get_or counts k 0 - k * 40) (drop (k * 40) nbrs)) (get_or imag k nan) (shared_out counts nbrs imag k row)
-      ≡ shared_out counts nbrs imag (k + 1) row
-  unfolding shared_out shared_at part
-  shared_more k h =
-      let e : k * 40 + get_or counts k 0 - k * 40 ≡ get_or counts k 0 = omega arith in
-      rw (e, sym (take-take (get_or counts k 0) 40 (drop (k * 40) nbrs) h)) (sym (fold_more (shared_at counts nbrs imag) row k))
+  pub shared_more : (k : ℕ) → shared_by (take (get_or counts k 0) (part 40 nbrs k)) (get_or imag k nan) (shared_out counts nbrs imag k row) ≡ shared_out counts nbrs imag (k + 1) row
+  unfolding shared_out shared_at
+  shared_more k = sym (fold_more (shared_at counts nbrs imag) row k)
 
 -- ---- a triplet of real points has nothing to share
 

@@ -1,3 +1,4 @@
+-- A record made by hand may have any counts, so its type can't keep this: who reads the arrays asks for it.
 -- The facts that a hull's rows are asked for: the counts of the record are within its arrays. Origin of the bounds: document 01, "Returned numbers", 11. Assumes nothing.
 use Rattle.std.specs.Prelude.{◌≤◌, ◌≡◌, true, leb}
 use Rattle.lists.specs.Lists.{every}

@@ -41,6 +41,7 @@ fn corners(panner: &VbapPanner, t: usize) -> [u8; 3]
     requires { t < 80 }
     ensures { result ≡ corners panner.now.idx t }
 {
+    // not `vector::point`, which is of f64
     let at = t * 3;
     [panner.idx[at], panner.idx[at + 1], panner.idx[at + 2]]
 }
@@ -50,9 +51,10 @@ fn corners(panner: &VbapPanner, t: usize) -> [u8; 3]
 fn real_points(out: &mut [f32], slots: &[u8], points: [u8; 3], g: [f32; 3])
     ensures { out.new ≡ real_points slots.now points g out.old }
 {
-    to_real(out, slots, points[0], g[0]);
-    to_real(out, slots, points[1], g[1]);
-    to_real(out, slots, points[2], g[2]);
+    // tried as a zip of both without an invariant: the search did not close it; by the range the invariant can name the place
+    for i in 0..3 {
+        to_real(out, slots, points[i], g[i]);
+    }
 }
 
 // The gains of three points to the imaginary ones, behind the n real ones.
@@ -61,9 +63,9 @@ fn imag_points(n: usize, points: [u8; 3], g: [f32; 3]) -> [f32; MAX_IMAGINARY]
     ensures { result ≡ imag_points n points g }
 {
     let mut sums = [0.0; MAX_IMAGINARY];
-    to_imag(&mut sums, n, points[0], g[0]);
-    to_imag(&mut sums, n, points[1], g[1]);
-    to_imag(&mut sums, n, points[2], g[2]);
+    for i in 0..3 {
+        to_imag(&mut sums, n, points[i], g[i]);
+    }
     sums
 }
 
@@ -72,7 +74,7 @@ fn imag_points(n: usize, points: [u8; 3], g: [f32; 3]) -> [f32; MAX_IMAGINARY]
 fn is_real(n: usize, points: [u8; 3]) -> bool
     ensures { result ≡ is_real n points }
 {
-    ((points[0] as usize) < n) & ((points[1] as usize) < n) & ((points[2] as usize) < n)
+    points.iter().all(|p| (*p as usize) < n)
 }
 
 // ---- imaginary points
@@ -95,9 +97,8 @@ fn share_out(out: &mut [f32], panner: &VbapPanner, sums: &[f32; MAX_IMAGINARY])
     ensures { out.new ≡ shared_out panner.now.num_nbrs panner.now.imag_nbrs sums.now panner.now.num_imag out.old }
 {
     for k in 0..panner.num_imag as usize {
-        let from = k * 40;
-        let to = from + panner.num_nbrs[k] as usize;
-        share(out, &panner.imag_nbrs[from..to], sums[k]);
+        // the number k is used too, not only as an index
+        share(out, panner.neighbours(k), sums[k]);
     }
 }
 
@@ -106,7 +107,7 @@ pub fn fill(out: &mut [f32], panner: &VbapPanner, t: usize, g: [f32; 3])
     requires { PointCounts panner.now × (t < 80) }
     ensures { out.new ≡ placed panner.now t g (length out.old) }
 {
-    let slots = &panner.pt_out[..panner.num_real as usize];
+    let slots = panner.real_slots();
     let points = corners(panner, t);
     row_places::zero(out);
     real_points(out, slots, points, g);

@@ -12,11 +12,12 @@ loop-k-init c = let v = c.args.panner.now in shared_none v.num_nbrs v.imag_nbrs 
 count_fits : (c : In-loop-k) → get_or c.args.panner.now.num_nbrs c.loop-k.k 0 ≤ 40
 count_fits c = leb-true _ 40 (every_get_d (λ n. leb n 40) c.args.panner.now.num_nbrs c.loop-k.k 0 refl c.requires.nbrs)
 
-pub slice_bounds-share-end : goal.slice_bounds-share-end
-slice_bounds-share-end c = omega (arith, count_fits (goal.at.slice_bounds-share-end c).In-loop-k)
+pub neighbours-requires : goal.neighbours-requires
+neighbours-requires c =
+    let f = c.requires.imag in (omega arith, count_fits (goal.at.neighbours-requires c).In-loop-k)
 
 pub loop-k-preserved : goal.loop-k-preserved
 loop-k-preserved c =
     let v = c.args.panner.now in
-    c.share.ensures ∙ ap (shared_by _ (get_or c.args.sums.now c.loop-k.k nan)) c.loop-k.invariant
-    ∙ shared_more v.num_nbrs v.imag_nbrs c.args.sums.now c.args.out.now c.loop-k.k (count_fits (goal.at.loop-k-preserved c).In-loop-k)
+    (rw c.neighbours.ensures at c.share.ensures) ∙ ap (shared_by _ (get_or c.args.sums.now c.loop-k.k nan)) c.loop-k.invariant
+    ∙ shared_more v.num_nbrs v.imag_nbrs c.args.sums.now c.args.out.now c.loop-k.k
