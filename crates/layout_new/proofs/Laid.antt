@@ -1,6 +1,6 @@
 -- A record written in one piece is the layout laid flat, kind by kind. Assumes nothing.
 use Prim.Native.Nat.{ℕ}
-use mathlib.Core.Path.{◌≡◌, refl}
+use mathlib.Core.Path.{◌≡◌}
 use mathlib.Core.List.{List, [], map, flat_map}
 use lib.Ieee.{Float, nan}
 use lib.ListN.{length, get_or, replicate}
@@ -10,19 +10,59 @@ use Rattle.vector.specs.Speakers.{Speaker, slots_of}
 use Rattle.layout_planar.specs.declared.PlanarPair.{PlanarPair}
 use Rattle.layout_planar.specs.Planar.{no_pair, pairs_of}
 use Rattle.layout_record.specs.Shape.{HullShape, numbers, silent, mono, planar, hull}
-use Rattle.layout_record.specs.Panner.{kind_in, mono_in, pairs_in, slots_in, hull_in, laid, no_panner}
-use Rattle.layout_record.specs.declared.Kind.TheVariants.{Mono, Planar, Hull}
+use Rattle.layout_record.specs.Panner.{kind_in, mono_in, pairs_in, slots_in, hull_in, laid}
+use Rattle.layout_record.specs.declared.Kind.TheVariants.{Silent, Mono, Planar, Hull}
 use Rattle.layout_record.specs.declared.VbapPanner.{VbapPanner}
 
 -- ---- none active, one, and a ring
 
-pub laid_silent : (n : ℕ) → ◌≡◌ {A = VbapPanner} (record no_panner { num_outputs = n }) (laid (record { outputs = n; shape = silent }))
-unfolding no_panner laid kind_in mono_in pairs_in slots_in hull_in
-laid_silent n = refl
+pub laid_silent : (n : ℕ) {pairs : List PlanarPair} → pairs ≡ replicate 40 no_pair
+    → ◌≡◌ {A = VbapPanner}
+    (record {
+      num_outputs = n;
+      kind = Silent;
+      mono = 0;
+      num_pairs = 0;
+      pairs = pairs;
+      num_slots = 0;
+      slots = replicate 40 0;
+      num_real = 0;
+      pt_out = replicate 40 0;
+      pt_dir = replicate 120 +0;
+      num_tris = 0;
+      idx = replicate 240 0;
+      inv = replicate 720 +0;
+      num_imag = 0;
+      num_nbrs = replicate 14 0;
+      imag_nbrs = replicate 560 0;
+    })
+    (laid (record { outputs = n; shape = silent }))
+unfolding laid kind_in mono_in pairs_in slots_in hull_in filled flat_map range from
+laid_silent n pairs = rw pairs
 
-pub laid_mono : (n i : ℕ) → ◌≡◌ {A = VbapPanner} (record no_panner { num_outputs = n; kind = Mono; mono = i }) (laid (record { outputs = n; shape = mono i }))
-unfolding no_panner laid kind_in mono_in pairs_in slots_in hull_in
-laid_mono n i = refl
+pub laid_mono : (n i : ℕ) {pairs : List PlanarPair} → pairs ≡ replicate 40 no_pair
+    → ◌≡◌ {A = VbapPanner}
+    (record {
+      num_outputs = n;
+      kind = Mono;
+      mono = i;
+      num_pairs = 0;
+      pairs = pairs;
+      num_slots = 0;
+      slots = replicate 40 0;
+      num_real = 0;
+      pt_out = replicate 40 0;
+      pt_dir = replicate 120 +0;
+      num_tris = 0;
+      idx = replicate 240 0;
+      inv = replicate 720 +0;
+      num_imag = 0;
+      num_nbrs = replicate 14 0;
+      imag_nbrs = replicate 560 0;
+    })
+    (laid (record { outputs = n; shape = mono i }))
+unfolding laid kind_in mono_in pairs_in slots_in hull_in filled flat_map range from
+laid_mono n i pairs = rw pairs
 
 pub laid_planar : (n : ℕ) (act : List Speaker) {np ns : ℕ} {pairs : List PlanarPair} {slots : List ℕ}
     → np ≡ length (pairs_of act) → pairs ≡ filled 40 no_pair (pairs_of act) → ns ≡ length (slots_of act) → slots ≡ filled 40 0 (slots_of act)

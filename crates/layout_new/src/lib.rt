@@ -14,8 +14,9 @@ mod active;
 use active::ActiveSpeakers;
 use layout_record::{Kind, VbapPanner};
 use refusals::Refusal;
+use vector::MAX_IMAGINARY;
 
-// Origin: document 01, refusal 2.
+// Origin: document 01, refusal 2. The number of places of a row, `mix_block::ROW`, stands in a crate above.
 const MOST_OUTPUTS: usize = 40;
 
 // What `new` makes: the layout, and how many imaginary points were made.
@@ -35,6 +36,7 @@ fn direction(positions: &[f32], lfe: &[usize], i: usize) -> Option<[f64; 3]>
     if lfe.contains(&i) {
         return None;
     }
+    // not `vector::point`, which is of f64
     let k = i * 3;
     vector::unit([positions[k], positions[k + 1], positions[k + 2]])
 }
@@ -52,17 +54,32 @@ fn active_speakers(positions: &[f32], lfe: &[usize]) -> ActiveSpeakers
     found
 }
 
-// ---- the answer, by the record's kind. A ring's and a hull's record is one literal each: a blank record with fields written over it would be moved about whole.
+// ---- the answer, by the record's kind. Each record is one literal, of arrays that stand in locals: a blank record with fields written over it would be moved about whole (`new` of one speaker took twice the time), and so would what is read out of another record.
 // Each kind is a function that is not inlined and that answers for `new`: a function makes room for all arrays of what is inlined into it, whichever kind it then makes, and a record that is handed on is copied.
 
 #[inline(never)]
 fn silent(outputs: u8) -> Result<NewPanner, Refusal>
     ensures { new_answer result ≡ accepted (record { outputs = outputs; shape = silent }) }
 {
+    let pairs = layout_planar::no_pairs();
     Ok(NewPanner {
         panner: VbapPanner {
             num_outputs: outputs,
-            ..layout_record::no_panner()
+            kind: Kind::Silent,
+            mono: 0,
+            num_pairs: 0,
+            pairs,
+            num_slots: 0,
+            slots: [0; 40],
+            num_real: 0,
+            pt_out: [0; 40],
+            pt_dir: [0.0; 120],
+            num_tris: 0,
+            idx: [0; 240],
+            inv: [0.0; 720],
+            num_imag: 0,
+            num_nbrs: [0; MAX_IMAGINARY],
+            imag_nbrs: [0; 560],
         },
         imaginary: 0,
     })
@@ -72,12 +89,25 @@ fn silent(outputs: u8) -> Result<NewPanner, Refusal>
 fn mono(outputs: u8, slot: u8) -> Result<NewPanner, Refusal>
     ensures { new_answer result ≡ accepted (record { outputs = outputs; shape = mono slot }) }
 {
+    let pairs = layout_planar::no_pairs();
     Ok(NewPanner {
         panner: VbapPanner {
             num_outputs: outputs,
             kind: Kind::Mono,
             mono: slot,
-            ..layout_record::no_panner()
+            num_pairs: 0,
+            pairs,
+            num_slots: 0,
+            slots: [0; 40],
+            num_real: 0,
+            pt_out: [0; 40],
+            pt_dir: [0.0; 120],
+            num_tris: 0,
+            idx: [0; 240],
+            inv: [0.0; 720],
+            num_imag: 0,
+            num_nbrs: [0; MAX_IMAGINARY],
+            imag_nbrs: [0; 560],
         },
         imaginary: 0,
     })
@@ -106,7 +136,7 @@ fn planar(outputs: u8, ring: &ActiveSpeakers) -> Result<NewPanner, Refusal>
             idx: [0; 240],
             inv: [0.0; 720],
             num_imag: 0,
-            num_nbrs: [0; 14],
+            num_nbrs: [0; MAX_IMAGINARY],
             imag_nbrs: [0; 560],
         },
         imaginary: 0,

@@ -1,6 +1,6 @@
--- `layout_new::mono` meets its contract: the blank record but for what is mono's. Assumes nothing.
-use Rattle.std.proofs.Common.{ap, ◌∙◌}
-use Rattle.layout_record.specs.declared.Kind.TheVariants.{Mono}
+-- `layout_new::mono` meets its contract: zeros but for what is mono's. Assumes nothing.
+use Rattle.std.proofs.Common.{ap}
+use lib.Ieee.{of_bits}
 use Rattle.layout_record.specs.declared.VbapPanner.{VbapPanner}
 use Rattle.layout_record.specs.Shape.{imaginary_in}
 use Rattle.layout_new.specs.Inner.Answers.{accepted}
@@ -8,5 +8,5 @@ use Rattle.layout_new.proofs.Laid.{laid_mono}
 use Rattle.layout_new.proofs.mono.Goals as goal
 
 pub returns : goal.returns
-unfolding accepted imaginary_in
-returns c = ap (λ (v : VbapPanner). record { number = 0; panner = v; imaginary = 0 }) (ap (λ (v : VbapPanner). record v { num_outputs = c.args.outputs; kind = Mono; mono = c.args.slot }) c.no_panner.ensures ∙ laid_mono c.args.outputs c.args.slot)
+unfolding of_bits accepted imaginary_in
+returns c = ap (λ (v : VbapPanner). record { number = 0; panner = v; imaginary = 0 }) (laid_mono c.args.outputs c.args.slot c.no_pairs-pairs.ensures)
