@@ -98,21 +98,16 @@ module _ (a b : Float) where
 
 -- ---- the slot of the nearest point
 
-module _ (s : Vector) (slots : List ℕ) (dirs : List Float) (n i : ℕ) (row : List Float) (e : i ≡ first_greatest 0 (products_of s dirs n)) (h : n ≤ length slots) where
+module _ (s : Vector) (slots : List ℕ) (dirs : List Float) (n i : ℕ) (row : List Float) (e : i ≡ first_greatest 0 (products_of s dirs n)) where
   at_place : nearest_in s slots dirs n row ≡ set row (get_or (take n slots) i (length row)) 1·0
   unfolding nearest_in
   at_place = rw e refl
 
-  slot_found : i < n → get_or (take n slots) i (length row) ≡ get_or slots i 0
-  slot_found k = get_or-take n slots i (length row) k ∙ get_or_default slots i (length row) 0 (omega arith)
+  pub nearest_set : i < length (take n slots) → set row (get_or (take n slots) i 0) 1·0 ≡ nearest_in s slots dirs n row
+  nearest_set k = sym (at_place ∙ ap (λ (o : ℕ). set row o 1·0) (get_or_default (take n slots) i (length row) 0 k))
 
-  pub nearest_set : i < n → set row (get_or slots i 0) 1·0 ≡ nearest_in s slots dirs n row
-  nearest_set k = sym (at_place ∙ ap (λ (o : ℕ). set row o 1·0) (slot_found k))
-
-  pub nearest_none : n ≤ i → row ≡ nearest_in s slots dirs n row
-  nearest_none k =
-      let p : length (take n slots) ≤ i = omega (arith, length-take-le n slots h) in
-      sym (at_place ∙ ap (λ (o : ℕ). set row o 1·0) (get_or-eq_default (take n slots) (length row) {n = i} p) ∙ set_out row (length row) 1·0 (omega arith))
+  pub nearest_none : length (take n slots) ≤ i → row ≡ nearest_in s slots dirs n row
+  nearest_none k = sym (at_place ∙ ap (λ (o : ℕ). set row o 1·0) (get_or-eq_default (take n slots) (length row) {n = i} k) ∙ set_out row (length row) 1·0 (omega arith))
 
 -- ---- to power 1
 

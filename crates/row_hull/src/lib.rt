@@ -29,7 +29,7 @@ fn lesser(a: f32, b: f32) -> f32
     if (b < a) | (a != a) { b } else { a }
 }
 
-// The product of a row of three numbers with the direction.
+// The product of a row of three numbers with the direction. Not `vector::dot`, which is of f64: a product over a trait of both widths is no plainer.
 #[tactic(auto, unfolding(vector::specs::Vector::dot_in))]
 fn dot(a: f32, b: f32, c: f32, s: [f32; 3]) -> f32
     ensures { result ≡ dot_in binary32 (a ∷ b ∷ c ∷ []) s }
@@ -67,6 +67,7 @@ fn chosen(panner: &VbapPanner, s: [f32; 3]) -> Option<usize>
 {
     let n = panner.num_tris as usize;
     let mut leasts = [0.0; 80];
+    // the number t is used too, not only as an index
     for t in 0..n {
         leasts[t] = least(gains_at(&panner.inv, t, s));
     }
@@ -110,6 +111,7 @@ fn product(dirs: &[f32; 120], i: usize, s: [f32; 3]) -> f32
     requires { i < 40 }
     ensures { result ≡ dot_in binary32 (part 3 dirs.now i) s }
 {
+    // not `vector::point`, which is of f64
     let at = i * 3;
     dot(dirs[at], dirs[at + 1], dirs[at + 2], s)
 }
@@ -121,6 +123,7 @@ fn nearest_point(panner: &VbapPanner, s: [f32; 3]) -> usize
 {
     let n = panner.num_real as usize;
     let mut products = [0.0; 40];
+    // the number i is used too, not only as an index
     for i in 0..n {
         products[i] = product(&panner.pt_dir, i, s);
     }
@@ -133,9 +136,10 @@ fn nearest(out: &mut [f32], panner: &VbapPanner, s: [f32; 3])
     ensures { out.new ≡ nearest_in s panner.now.pt_out panner.now.pt_dir panner.now.num_real (replicate (length out.old) +0) }
 {
     let i = nearest_point(panner, s);
+    let slots = panner.real_slots();
     row_places::zero(out);
-    if i < panner.num_real as usize {
-        row_places::put(out, panner.pt_out[i], 1.0);
+    if i < slots.len() {
+        row_places::put(out, slots[i], 1.0);
     }
 }
 
