@@ -76,6 +76,7 @@ fn eight_passed(l: &[f32], t: usize, g: f32) -> bool
 fn skipped(l: &[f32], g: f32) -> usize
     ensures { (result ≤ length l.now) × AllPassed g l.now 0 result }
 {
+    // the number i is used too, not only as an index
     for i in 0..l.len() / 8 {
         if !eight_passed(l, i * 8, g) {
             return i * 8;
@@ -84,16 +85,17 @@ fn skipped(l: &[f32], g: f32) -> usize
     l.len() / 8 * 8
 }
 
-// The first number that is not passed; the list's length where all are.
-fn first_kept(l: &[f32], g: f32) -> usize
-    ensures { FirstKept g l.now (length l.now) result }
+// The first number that is not passed, if there is one.
+fn first_kept(l: &[f32], g: f32) -> Option<usize>
+    ensures { FirstKept g l.now (length l.now) (unwrap_or result (length l.now)) }
 {
+    // the number i is used too, not only as an index
     for i in skipped(l, g)..l.len() {
         if !is_passed(l[i], g) {
-            return i;
+            return Some(i);
         }
     }
-    l.len()
+    None
 }
 
 // The place of the greatest number, the earlier of equals; none where no number is above -infinity.
@@ -103,7 +105,7 @@ pub fn first_greatest(l: &[f32]) -> Option<usize>
 {
     let g = top(l);
     if g > f32::NEG_INFINITY {
-        Some(first_kept(l, g))
+        first_kept(l, g)
     } else {
         None
     }
