@@ -134,19 +134,28 @@ fn spread_gain(w: f32, d2: f32, g: f32) -> f32
     float_root::sqrt32((1.0 - w) * g * g + d2)
 }
 
-// One slot's gain, spread; `silent` is what a gain of zero becomes.
+// The part w of the power, d2 of it for each slot, and what a gain of zero becomes by them.
+#[derive(Drop)]
+struct Spread {
+    w: f32,
+    d2: f32,
+    silent: f32,
+    ghost zero: { silent ≡ spread_gain w d2 +0 },
+}
+
+// One slot's gain, spread.
 #[tactic(auto, unfolding(crate::specs::PlanarRow::spread_at))]
-fn spread_at(row: &mut [f32], slot: u8, w: f32, d2: f32, silent: f32)
-    requires { silent ≡ spread_gain w d2 +0 }
-    ensures { row.new ≡ spread_at w d2 row.old slot }
+fn spread_at(row: &mut [f32], slot: u8, s: &Spread)
+    ensures { row.new ≡ spread_at s.now.w s.now.d2 row.old slot }
 {
+    // not by `get_mut`, as `row_places::put`
     let i = slot as usize;
     if i < row.len() {
         let g = row[i];
         row[i] = if g == 0.0 {
-            silent
+            s.silent
         } else {
-            spread_gain(w, d2, g)
+            spread_gain(s.w, s.d2, g)
         };
     }
 }
@@ -157,9 +166,13 @@ fn spread_over(w: f32, slots: &[u8], row: &mut [f32])
 {
     if (0.0 < w) & !slots.is_empty() {
         let d2 = w / float_widths::f32_from_u64(slots.len() as u64);
-        let silent = spread_gain(w, d2, 0.0);
+        let s = Spread {
+            w,
+            d2,
+            silent: spread_gain(w, d2, 0.0),
+        };
         for slot in slots {
-            spread_at(row, *slot, w, d2, silent);
+            spread_at(row, *slot, &s);
         }
     }
 }

@@ -10,8 +10,9 @@ pub returns-after-g : goal.returns-after-g
 unfolding of_bits
 returns-after-g c =
     let s = c.args in
+    let p = s.s.now in
     let g : Float = get_or s.row.now s.slot nan in
     elim c.if-g.branch [
-      | then-g w ↦ spread_by s.row.now s.slot s.w s.d2 (w.row-is ∙ c.requires ∙ silent_spread s.w s.d2 g w.if-g.true)
-      | else-g w ↦ spread_by s.row.now s.slot s.w s.d2 (w.row-is ∙ w.spread_gain.ensures)
+      | then-g w ↦ spread_by s.row.now s.slot p.w p.d2 (w.row-is ∙ p.zero ∙ silent_spread p.w p.d2 g w.if-g.true)
+      | else-g w ↦ spread_by s.row.now s.slot p.w p.d2 (w.row-is ∙ w.spread_gain.ensures)
     ]
