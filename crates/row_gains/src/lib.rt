@@ -30,15 +30,13 @@ fn row(panner: &VbapPanner, az: f32, el: f32, out: &mut [f32])
             row_places::put(out, panner.mono, 1.0);
         }
         Kind::Planar => {
-            let pairs = &panner.pairs[..panner.num_pairs as usize];
-            let slots = &panner.slots[..panner.num_slots as usize];
-            row_planar::planar_row(pairs, slots, az, el, out);
+            row_planar::planar_row(panner.ring_pairs(), panner.ring_slots(), az, el, out);
         }
         Kind::Hull => row_hull::hull_row(panner, az, el, out),
     }
 }
 
-// `VbapPanner::gains`: refused for a malformed record, the buffer unchanged; else the row in the first of the places, as many as there are outputs.
+// `VbapPanner::gains`: refused for a malformed record, the buffer unchanged; else the row in the first of the places, as many as there are outputs. az and el are two parameters, as the source has them.
 // Free to the program: the sign and payload of a NaN in a row of a record made by hand. Every choice is a NaN, and a quiet one, since every gain is computed. A record from `new` gives none (crate theorem_rows).
 pub fn gains(panner: &VbapPanner, az: f32, el: f32, out: &mut [f32]) -> Result<(), Refusal>
     ensures value { number_in result ≡ gains_number panner.now }

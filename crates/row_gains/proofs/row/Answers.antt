@@ -6,11 +6,11 @@ use Rattle.layout_record.proofs.Counts.{within}
 use Rattle.row_gains.proofs.Rows.{hull_counts, row_silent, row_mono, row_planar, row_hull}
 use Rattle.row_gains.proofs.row.Goals as goal
 
-pub shared_ref_as_front-pairs : goal.shared_ref_as_front-pairs
-shared_ref_as_front-pairs c = (within c.args.panner.now c.requires).pairs
+pub ring_pairs-requires : goal.ring_pairs-requires
+ring_pairs-requires c = (within c.args.panner.now c.requires).pairs
 
-pub shared_ref_as_front-slots : goal.shared_ref_as_front-slots
-shared_ref_as_front-slots c = (within c.args.panner.now c.requires).slots
+pub ring_slots-requires : goal.ring_slots-requires
+ring_slots-requires c = (within c.args.panner.now c.requires).slots
 
 pub hull_row-requires : goal.hull_row-requires
 hull_row-requires c = hull_counts c.args.panner.now c.requires
@@ -29,7 +29,7 @@ returns-in-Mono c =
 pub returns-in-Planar : goal.returns-in-Planar
 returns-in-Planar c =
     let a = c.args in
-    c.planar_row.ensures ∙ row_planar a.panner.now (length a.out.now) a.az a.el c.in-Planar.is
+    (rw (c.ring_pairs.ensures, c.ring_slots.ensures) at c.planar_row.ensures) ∙ row_planar a.panner.now (length a.out.now) a.az a.el c.in-Planar.is
 
 pub returns-in-Hull : goal.returns-in-Hull
 returns-in-Hull c =
