@@ -89,6 +89,7 @@ fn all_sides(pts: &[[f64; 3]], t: Triple, plane: Plane) -> Sides
         below: true,
         above: true,
     };
+    // the number is used too, not only as an index
     for p in (0..pts.len()).rev() {
         if !is_other(t, p) {
             continue;
@@ -188,6 +189,7 @@ fn well_apart(pts: &[[f64; 3]], t: Triple, raw: [f64; 3]) -> bool
 }
 
 // The tests of a triple of the points, up to that of its plane's distance; `near` tells that the points are.
+// It is told once for all triples of the points; a struct that holds it with the points would be asked by this function alone.
 pub fn face_test(pts: &[[f64; 3]], near: bool, t: Triple) -> Face
     requires within { Within (length pts.now) t }
     requires near { near ≡ true → NearIn pts.now }
