@@ -11,6 +11,7 @@ use layout_hull::Hull;
 use vector::MAX_IMAGINARY;
 
 // What the closing ends with: how many imaginary points there are, poles counted; the hull of all points, which is open where no candidate or no room was left; whether a triplet list on the way had more than 80 entries, which a short list at the end does not undo.
+// `over` is a flag and no Result: `close` and `layout_hull::hull_triplets` promise a hull for all points, and cannot fail.
 #[derive(Clone, Copy)]
 pub struct Ended {
     pub imag: usize,
@@ -56,8 +57,8 @@ const CANDIDATES: [[f64; 3]; 14] = [
 fn nearest_product(pts: &[[f64; 3]], c: [f64; 3]) -> f64
     ensures { result ≡ nearest_product pts.now c }
 {
-    // −∞. Origin: vbap.rs line 384
-    let mut g = -1.0 / 0.0;
+    // Origin: vbap.rs line 384
+    let mut g = f64::NEG_INFINITY;
     for p in pts {
         g = float_order::max(g, vector::dot(*p, c));
     }
@@ -120,7 +121,8 @@ fn candidate(pts: &[[f64; 3]]) -> Option<Best>
     best
 }
 
-// The first n directions, with room for the imaginary points: fixed memory, so points are an array's first places.
+// The first n directions, with room for the imaginary points, in an array's first places.
+// The directions come as the caller holds them: the arrays of its active speakers with their count (fixed memory), read where they stand. A slice of directions would need a second array beside those, and a slice of these numbers moves the cut into each caller.
 fn with_room(dir: &[f64; 120], n: usize) -> [[f64; 3]; 54]
     requires { n ≤ 40 }
     ensures { take n result ≡ points_in n dir.now }
@@ -132,11 +134,12 @@ fn with_room(dir: &[f64; 120], n: usize) -> [[f64; 3]; 54]
     pts
 }
 
-// The n directions, three numbers each in an array of fixed memory, with the poles and, while the hull is open and fewer than fourteen points are imaginary, candidates.
+// The n directions, three numbers each in the caller's array, with the poles and, while the hull is open and fewer than fourteen points are imaginary, candidates.
 pub fn close(dir: &[f64; 120], n: usize) -> Ended
     requires { n ≤ 40 }
     ensures { result ≡ ended_in (points_in n dir.now) }
 {
+    // the points stand in an array of 54, and how many there are beside it: n, then top, then m
     let mut pts = with_room(dir, n);
     // the poles. Origin: vbap.rs lines 369 and 371
     let top = with_pole(&mut pts, n, [0.0, 1.0, 0.0]);
@@ -151,6 +154,7 @@ pub fn close(dir: &[f64; 120], n: usize) -> Ended
         let Some(best) = candidate(&pts[..m]) else {
             break;
         };
+        // a local first: tried, today's check covers no store of a field that is an array
         let c = best.c;
         pts[m] = c;
         m += 1;
