@@ -47,7 +47,7 @@ const COINCIDENT: f64 = 1e-6;
 // Just under pi: the 32-bit pi less 1e-3. Origin: vbap.rs line 55; a pair with this gap or more has the crossfade.
 const MAX_VBAP_GAP: f32 = 3.1405928;
 
-// The azimuth and the slot of a speaker.
+// The azimuth and the slot of a speaker. That a slot fits in 8 bits is promised here, and a spot's number is a usize: a `Spot<N>` would put a type parameter into each definition and function of the sort, the ring and the fan for this one fact.
 fn spot(slot: u8, dir: [f64; 3]) -> Spot
     ensures is { result ≡ spot_of (record { slot = slot; dir = dir }) }
     ensures slot { slot_fits result ≡ true }
@@ -58,7 +58,8 @@ fn spot(slot: u8, dir: [f64; 3]) -> Spot
     }
 }
 
-// The azimuths and slots of n speakers in ascending order of azimuth, equals in slot order, in the array's first places: memory is fixed, so a count stands beside the arrays, here and below.
+// The azimuths and slots of n speakers in ascending order of azimuth, equals in slot order, in the array's first places.
+// The slots and the directions come as the caller holds them: the arrays of its active speakers with their count (fixed memory); slices would move the cut into each caller.
 fn sorted_spots(out: &[u8; 40], dir: &[f64; 120], n: usize) -> [Spot; 40]
     requires { n ≤ 40 }
     ensures are { take n result ≡ ring (speakers_in n out.now dir.now) }
@@ -69,8 +70,7 @@ fn sorted_spots(out: &[u8; 40], dir: &[f64; 120], n: usize) -> [Spot; 40]
         number: 0,
     }; 40];
     for i in 0..n {
-        let s = spot(out[i], vector::point(dir, i));
-        a[i] = s;
+        a[i] = spot(out[i], vector::point(dir, i));
     }
     angle_sort::sort(&mut a[..n]);
     a
@@ -153,7 +153,7 @@ pub fn no_pairs() -> [PlanarPair; 40]
     [none; 40]
 }
 
-// The pairs of the ring that n active speakers make: their slots, and three numbers a direction, both in arrays of fixed memory.
+// The pairs of the ring that n active speakers make: their slots, and three numbers a direction.
 // The sine and the cosine of each spot serve the pair that ends at it and the one that starts there.
 pub fn build_planar(out: &[u8; 40], dir: &[f64; 120], n: usize) -> Planar
     requires { n ≤ 40 }
@@ -163,9 +163,9 @@ pub fn build_planar(out: &[u8; 40], dir: &[f64; 120], n: usize) -> Planar
     let ring = &a[..n];
     let first = a[0];
     let mut here = float_sine::sin_cos(first.angle);
+    // the pairs begin in place, and not as `no_pairs()`, whose answer would be an array of 40 copied here; they and their count become the fields of the record, whose memory is fixed
     let none = no_pair();
     let mut pairs = [none; 40];
-    // fixed memory: the pairs stand in an array of 40, and how many there are beside it
     let mut num_pairs: usize = 0;
     for (i, s) in ring.iter().enumerate() {
         let s = *s;

@@ -13,10 +13,10 @@ loop-i-init c = (refl, spots_none _ _ [], slots_none _ _)
 pub loop-i-preserved : goal.loop-i-preserved
 loop-i-preserved c =
     let g = c.args in
-    let e : c.spot-s.result ≡ spot_of (speaker_at g.out.now g.dir.now c.loop-i.i) = cc c.point.ensures.part in (
-      length-set c.loop-i.a c.loop-i.i c.spot-s.result ∙ c.loop-i.invariant.0,
+    let e : c.spot.result ≡ spot_of (speaker_at g.out.now g.dir.now c.loop-i.i) = cc c.point.ensures.part in (
+      length-set c.loop-i.a c.loop-i.i c.spot.result ∙ c.loop-i.invariant.0,
       rw e (spots_more g.out.now g.dir.now c.loop-i.i c.loop-i.a (omega arith) c.loop-i.invariant.1),
-      slots_more g.out.now g.dir.now c.loop-i.i c.loop-i.invariant.2 (rw e at c.spot-s.ensures.slot),
+      slots_more g.out.now g.dir.now c.loop-i.i c.loop-i.invariant.2 (rw e at c.spot.ensures.slot),
     )
 
 -- after the loop the spots of all n speakers stand in front
