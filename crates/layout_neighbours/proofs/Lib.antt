@@ -3,6 +3,7 @@ pub mod Reaches
 pub mod Holds
 pub mod Triplet
 pub mod Passes
+pub mod Chunks
 pub mod Sound
 pub mod Left
 pub mod Laid

@@ -15,7 +15,7 @@ pub struct ImagNbrs {
     pub imag_nbrs: [u8; 560],
 }
 
-// The search from one point: which points were visited and how many, and which slots were found and how many.
+// The search from one point: which points were visited and how many, and which slots were found and how many: all 40 places, zeros too, become the point's list.
 #[derive(Clone, Copy)]
 struct Search {
     visited: [bool; 54],
@@ -25,6 +25,7 @@ struct Search {
 }
 
 // What the search goes over: the point numbers of the triplets, three each; how many triplets there are; the slots of the real points.
+// The count stays beside the numbers: a slice cut at it would have each clause tell the triplets by a third of its length.
 #[derive(Clone, Copy)]
 struct Given<'a> {
     idx: &'a [u8],
@@ -70,15 +71,16 @@ fn reach(g: Given, p: usize, s: &mut Search)
     s.seen += 1;
 }
 
-// Triplet t, where one of its points is visited.
-fn across(g: Given, t: usize, s: &mut Search)
-    requires t_bound { t < g.tris }
+// The triplet t, where one of its points is visited.
+fn across(g: Given, t: &[u8], s: &mut Search)
+    requires long { length t.now ≡ 3 }
+    requires low { (k : ℕ) → k < 3 → slice_index t.now k < length g.out.now + 14 }
     requires held { Held (length g.out.now) s.old }
-    ensures { Leads (length g.entry.out.now) (λ r. across g.entry.out.now r (part 3 g.entry.idx.now t)) s.old s.new }
+    ensures { Leads (length g.entry.out.now) (λ r. across g.entry.out.now r t.now) s.old s.new }
 {
-    let i = g.idx[t * 3] as usize;
-    let j = g.idx[t * 3 + 1] as usize;
-    let k = g.idx[t * 3 + 2] as usize;
+    let i = t[0] as usize;
+    let j = t[1] as usize;
+    let k = t[2] as usize;
     if s.visited[i] | s.visited[j] | s.visited[k] {
         reach(g, i, s);
         reach(g, j, s);
@@ -91,7 +93,7 @@ fn pass(g: Given, s: &mut Search)
     requires { Held (length g.out.now) s.old }
     ensures { Leads (length g.entry.out.now) (pass g.entry.out.now (triples_in g.entry.tris g.entry.idx.now)) s.old s.new }
 {
-    for t in 0..g.tris {
+    for t in g.idx[..g.tris * 3].chunks_exact(3) {
         across(g, t, s);
     }
 }
@@ -127,7 +129,8 @@ fn store(all: &mut [u8; 560], k: usize, nbrs: &[u8; 40])
     all[k * 40..k * 40 + 40].copy_from_slice(nbrs);
 }
 
-// The neighbours of the imaginary points nreal to n - 1. The numbers and slots come in arrays of fixed memory, each with its count.
+// The neighbours of the imaginary points nreal to n - 1.
+// The point numbers and the slots come as the caller holds them, in a hull's and the active speakers' arrays with their counts (fixed memory); slices would move the cuts into each caller.
 pub fn neighbours(idx: &[u8; 240], tris: usize, out: &[u8; 40], nreal: usize, n: usize) -> ImagNbrs
     requires { Numbered idx.now tris out.now nreal n }
     ensures { result ≡ neighbours_in (take nreal out.now) (triples_in tris idx.now) (n - nreal) }
@@ -141,8 +144,7 @@ pub fn neighbours(idx: &[u8; 240], tris: usize, out: &[u8; 40], nreal: usize, n:
     let mut imag_nbrs = [0u8; 560];
     for k in 0..n - nreal {
         let s = neighbours_of(g, nreal + k);
-        let nbrs = s.nbrs;
-        store(&mut imag_nbrs, k, &nbrs);
+        store(&mut imag_nbrs, k, &s.nbrs);
         num_nbrs[k] = s.found as u8;
     }
     ImagNbrs {
