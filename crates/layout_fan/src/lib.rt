@@ -5,6 +5,7 @@
 ghost use Rattle.std.specs.Prelude.{◌≡◌, true, ◌∷◌, ◌+◌, ◌≤◌, ◌<◌, ltb, map, take, length};
 ghost use Rattle.lists.specs.Lists.{every};
 ghost use Rattle.layout_faces.specs.Faces.{others, point};
+ghost use Rattle.layout_faces.specs.Inner.Steps.{Within};
 ghost use Rattle.layout_fan.specs.Fan.{helper, angle_in, coplanar, fan, adjacent};
 ghost use Rattle.layout_fan.specs.Inner.Steps.{is_coplanar, basis_of, angle_by, spot_of, pos_of, fan_test};
 
@@ -29,21 +30,20 @@ fn is_coplanar(t: Triple, plane: Plane, p: usize, at: [f64; 3]) -> bool
     layout_faces::is_other(t, p) & (layout_faces::height(plane, at) >= -layout_faces::EPS)
 }
 
-// The numbers of those points that are coplanar with the triple, in the array's first places; how many there are.
-fn coplanar(pts: &[[f64; 3]], t: Triple, plane: Plane, to: &mut [usize; 54]) -> usize
+// The numbers of those points that are coplanar with the triple, in the room that is lent for them.
+fn coplanar<'a>(pts: &[[f64; 3]], t: Triple, plane: Plane, room: &'a mut [usize; 54]) -> &'a [usize]
     requires { length pts.now ≤ 54 }
-    ensures are { take result to.new ≡ coplanar pts.now plane (others (length pts.now) t.i t.j t.k) }
-    ensures fits { result ≤ 54 }
+    ensures { result.now ≡ coplanar pts.now plane (others (length pts.now) t.i t.j t.k) }
 {
     let mut count = 0;
     for (p, at) in pts.iter().enumerate() {
         if !is_coplanar(t, plane, p, *at) {
             continue;
         }
-        to[count] = p;
+        room[count] = p;
         count += 1;
     }
-    count
+    &room[..count]
 }
 
 // Whether i is below the numbers.
@@ -93,25 +93,19 @@ fn spot(basis: Basis, first: f64, p: usize, at: [f64; 3]) -> Spot
     }
 }
 
-// The points j and k and those numbered, with their angles from `first` on, in the array's first places.
-fn spots(
-    pts: &[[f64; 3]],
-    basis: Basis,
-    first: f64,
-    j: usize,
-    k: usize,
-    numbers: &[usize],
-) -> [Spot; 53]
+// The triple's points j and k and those numbered, with their angles from `first` on, in the array's first places.
+fn spots(pts: &[[f64; 3]], basis: Basis, first: f64, t: Triple, numbers: &[usize]) -> [Spot; 53]
     requires few { length numbers.now ≤ 51 }
-    requires within { (j < length pts.now) × (k < length pts.now) × (every (λ p. ltb p (length pts.now)) numbers.now ≡ true) }
-    ensures { take (length numbers.now + 2) result ≡ map (λ p. spot_of basis first p (point pts.now p)) (j ∷ k ∷ numbers.now) }
+    requires triple { Within (length pts.now) t }
+    requires within { every (λ p. ltb p (length pts.now)) numbers.now ≡ true }
+    ensures { take (length numbers.now + 2) result ≡ map (λ p. spot_of basis first p (point pts.now p)) (t.j ∷ t.k ∷ numbers.now) }
 {
     let mut a = [Spot {
         angle: 0.0,
         number: 0,
     }; 53];
-    a[0] = spot(basis, first, j, pts[j]);
-    a[1] = spot(basis, first, k, pts[k]);
+    a[0] = spot(basis, first, t.j, pts[t.j]);
+    a[1] = spot(basis, first, t.k, pts[t.k]);
     for (q, p) in numbers.iter().enumerate() {
         let s = spot(basis, first, *p, pts[*p]);
         a[q + 2] = s;
@@ -119,7 +113,7 @@ fn spots(
     a
 }
 
-// How many spots stand before that of point p.
+// How many spots stand before that of point p: the length where there is none, as the definition's `position` has it. The points that are asked for are always among the spots, so an Option would be taken apart for a None that can't occur.
 fn pos_of(ring: &[Spot], p: usize) -> usize
     ensures is { result ≡ pos_of p ring.now }
     ensures within { result ≤ length ring.now }
@@ -142,12 +136,13 @@ fn is_adjacent(ring: &[Spot], j: usize, k: usize) -> bool
 // Whether j and k are next to each other among the points of a plane, in the order of their angles from i.
 fn next_in_fan(pts: &[[f64; 3]], nrm: [f64; 3], t: Triple, numbers: &[usize]) -> bool
     requires few { length numbers.now ≤ 51 }
-    requires within { (t.i < length pts.now) × (t.j < length pts.now) × (t.k < length pts.now) × (every (λ p. ltb p (length pts.now)) numbers.now ≡ true) }
+    requires triple { Within (length pts.now) t }
+    requires within { every (λ p. ltb p (length pts.now)) numbers.now ≡ true }
     ensures { result ≡ adjacent t.j t.k (fan pts.now nrm t.i (t.j ∷ t.k ∷ numbers.now)) }
 {
     let basis = basis_in(nrm);
     let first = angle(basis, pts[t.i]);
-    let mut a = spots(pts, basis, first, t.j, t.k, numbers);
+    let mut a = spots(pts, basis, first, t, numbers);
     let ring = &mut a[..numbers.len() + 2];
     angle_sort::sort(ring);
     is_adjacent(ring, t.j, t.k)
@@ -159,8 +154,7 @@ pub fn in_fan(pts: &[[f64; 3]], t: Triple, plane: Plane) -> bool
     ensures { result ≡ fan_test pts.now t.i t.j t.k plane }
 {
     let mut room = [0usize; 54];
-    let m = coplanar(pts, t, plane, &mut room);
-    let numbers = &room[..m];
+    let numbers = coplanar(pts, t, plane, &mut room);
     if numbers.is_empty() {
         return true;
     }

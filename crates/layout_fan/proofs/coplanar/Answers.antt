@@ -12,8 +12,8 @@ loop-p-preserved-then-not-is_coplanar c = found_no _ c.loop-p.p c.loop-p.invaria
 pub loop-p-preserved : goal.loop-p-preserved
 loop-p-preserved c = found_yes _ c.loop-p.p c.loop-p.invariant c.is_coplanar.ensures (omega arith) c.if-not-is_coplanar.false
 
-pub returns-clause-are : goal.returns-clause-are
-returns-clause-are c =
+pub returns : goal.returns
+returns c =
     let a = c.args in
     let e : c.loop-p.p ≡ length a.pts.now = omega arith in
     c.loop-p.invariant.are
