@@ -44,7 +44,7 @@ pub fn sqrt64_all(src: &[f64], dst: &mut [f64])
     fill_by(dst, n, |i| float_root::sqrt64(src[i]));
 }
 
-// Sine and cosine of each value.
+// Sine and cosine of each value. By the place: one call gives both, and after `iter_mut().zip(..)` a proof knows nothing of the elements.
 pub fn sin_cos_all(src: &[f64], sin: &mut [f64], cos: &mut [f64])
     ensures sines { Filled (min (length src.now) (min (length sin.old) (length cos.old))) (λ i. sin_of (at src.now i)) sin.old sin.new }
     ensures cosines { Filled (min (length src.now) (min (length sin.old) (length cos.old))) (λ i. cos_of (at src.now i)) cos.old cos.new }

@@ -20,7 +20,7 @@ pub fn load(s: &[f32], i: usize) -> [f32; 8]
     array::from_fn(|k| s[i + k])
 }
 
-// Eight samples, stored from i on.
+// Eight samples, stored from i on. Place by place: with `copy_from_slice` here and in `load` a moving ramp takes twice the time.
 pub fn store(d: &mut [f32], i: usize, v: [f32; 8])
     requires { i + 8 ≤ length d.old }
     ensures { d.new ≡ foldl (λ l k. set l (i + k) (get_or v k nan)) d.old (range 8) }
