@@ -42,6 +42,13 @@ module _ (s : Session) (c : Call) {why : ℕ} (w : why ≡ number_of s c) where
       let n : number_of s c ≡ 0 = sym w ∙ z in
       answer_of_lem s c n (after_accepted s c n ∙ sym e)
 
+-- a call on a lent session that is refused with a number that is not 0: beside the session as it was the answer is the same
+pub refused_left : (s : Session) (c : Call) {why : ℕ} {t : Session} → (why ≡ 0 → ⊥)
+    → ◌≡◌ {A = Answer} (record { number = why; session = t }) (answer_of s c)
+    → ◌≡◌ {A = Answer} (record { number = why; session = s }) (answer_of s c)
+unfolding answer_of
+refused_left s c h e = refused_as s c (ap (λ (a : Answer). a.number) e) h
+
 -- ---- a changed session: the record t of a function, by the list l that it holds
 
 -- the standing directions

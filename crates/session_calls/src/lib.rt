@@ -6,14 +6,13 @@ ghost use Rattle.refusals.specs.Refusals.{number_in};
 ghost use Rattle.lists.specs.Lists.{any};
 ghost use Rattle.session_history.specs.Calls.{place, take_back, settle};
 ghost use Rattle.session_history.specs.History.{depth};
-ghost use Rattle.mix_block.specs.Limits.{most_sources};
-ghost use Rattle.session_calls.specs.Session.{malformed_session, on_source, number_of, stood, with_starts};
-ghost use Rattle.session_calls.specs.Answers.{answer_of, answered};
+ghost use Rattle.session_calls.specs.Session.{malformed_session, on_source, number_of, with_starts};
+ghost use Rattle.session_calls.specs.Answers.{answer_of, answered, left};
 
 use layout_record::VbapPanner;
 use mix_block::{SOURCES, Starts};
 use refusals::Refusal;
-use session_standing::{Count, Counts, DEPTH, Standing};
+use session_standing::{Counts, DEPTH, Standing};
 
 // The counts and standing directions lie as crate session_standing says, the start rows as crate mix_block says.
 #[derive(Clone, Copy)]
@@ -57,7 +56,7 @@ fn source_refusal(s: &Session, source: usize) -> Result<(), Refusal>
     Ok(())
 }
 
-// What refuses a place: the shared refusals, then a full list.
+// What refuses a place: the shared refusals, then a full list. az and el serve the promise alone.
 pub fn place_refusal(s: &Session, source: usize, az: f32, el: f32) -> Result<(), Refusal>
     ensures { number_in result ≡ number_of s.now (place source az el) }
 {
@@ -81,20 +80,6 @@ fn take_back_refusal(s: &Session, source: usize) -> Result<(), Refusal>
 
 // ---- a session by each kind of change
 
-// With another count for a source, and other standing directions.
-fn stood(s: Session, source: usize, n: Count, standing: Standing) -> Session
-    requires { source < most_sources }
-    ensures { result ≡ stood s source n standing }
-{
-    let mut counts = s.counts;
-    counts[source] = n;
-    Session {
-        counts,
-        standing,
-        ..s
-    }
-}
-
 // With other start rows.
 pub fn with_starts(s: Session, starts: Starts) -> Session
     ensures { result ≡ with_starts s starts }
@@ -102,48 +87,70 @@ pub fn with_starts(s: Session, starts: Starts) -> Session
     Session { starts, ..s }
 }
 
-// ---- place, take back, settle. An `Err` leaves the caller's session as it is.
+// ---- place, take back, settle on a session that is lent: a session is 7.7 KB, and no copy of it is made. An `Err` leaves it as it is.
 
 // Appends a direction.
-pub fn place(s: Session, source: usize, az: f32, el: f32) -> Result<Session, Refusal>
-    ensures { answered s result ≡ answer_of s (place source az el) }
+pub fn place_on(s: &mut Session, source: usize, az: f32, el: f32) -> Result<(), Refusal>
+    ensures { left result s.new ≡ answer_of s.old (place source az el) }
 {
-    place_refusal(&s, source, az, el)?;
+    place_refusal(&*s, source, az, el)?;
     let n = s.counts[source];
-    let standing = s.standing;
-    let placed = session_standing::put(
-        standing,
-        source,
-        n as usize,
-        row_gains::finite_or_0(az),
-        row_gains::finite_or_0(el),
-    );
-    Ok(stood(s, source, n + 1, placed))
+    let az = row_gains::finite_or_0(az);
+    let el = row_gains::finite_or_0(el);
+    session_standing::put(&mut s.standing, source, n as usize, az, el);
+    s.counts[source] = n + 1;
+    Ok(())
 }
 
 // Removes the last direction, +0 into the freed place.
-pub fn take_back(s: Session, source: usize) -> Result<Session, Refusal>
-    ensures { answered s result ≡ answer_of s (take_back source) }
+pub fn take_back_on(s: &mut Session, source: usize) -> Result<(), Refusal>
+    ensures { left result s.new ≡ answer_of s.old (take_back source) }
 {
-    take_back_refusal(&s, source)?;
+    take_back_refusal(&*s, source)?;
     let n = s.counts[source] - 1;
-    let standing = s.standing;
-    let rest = session_standing::put(standing, source, n as usize, 0.0, 0.0);
-    Ok(stood(s, source, n, rest))
+    session_standing::put(&mut s.standing, source, n as usize, 0.0, 0.0);
+    s.counts[source] = n;
+    Ok(())
 }
 
 // Keeps only the last direction; an empty list stays as it is.
-pub fn settle(s: Session, source: usize) -> Result<Session, Refusal>
+pub fn settle_on(s: &mut Session, source: usize) -> Result<(), Refusal>
     // The last direction is copied to the first place as it is held. In a hand-made record it may hold a NaN: the promise says that a NaN stands there afterwards,
     // and the code copies its bits. Its sign and payload are not the program's choice, but the logic has one NaN and cannot say so.
-    ensures { answered s result ≡ answer_of s (settle source) }
+    ensures { left result s.new ≡ answer_of s.old (settle source) }
 {
-    source_refusal(&s, source)?;
+    source_refusal(&*s, source)?;
     let n = s.counts[source];
     if n == 0 {
-        return Ok(s);
+        return Ok(());
     }
-    let standing = s.standing;
-    let last = session_standing::keep(standing, source, (n - 1) as usize);
-    Ok(stood(s, source, 1, last))
+    session_standing::keep(&mut s.standing, source, (n - 1) as usize);
+    s.counts[source] = 1;
+    Ok(())
+}
+
+// ---- and on a session by value. An `Err` leaves the caller's session as it is.
+
+pub fn place(s: Session, source: usize, az: f32, el: f32) -> Result<Session, Refusal>
+    ensures { answered s result ≡ answer_of s (place source az el) }
+{
+    let mut s = s;
+    place_on(&mut s, source, az, el)?;
+    Ok(s)
+}
+
+pub fn take_back(s: Session, source: usize) -> Result<Session, Refusal>
+    ensures { answered s result ≡ answer_of s (take_back source) }
+{
+    let mut s = s;
+    take_back_on(&mut s, source)?;
+    Ok(s)
+}
+
+pub fn settle(s: Session, source: usize) -> Result<Session, Refusal>
+    ensures { answered s result ≡ answer_of s (settle source) }
+{
+    let mut s = s;
+    settle_on(&mut s, source)?;
+    Ok(s)
 }

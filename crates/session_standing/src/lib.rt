@@ -1,4 +1,4 @@
-// The standing directions of all sources, by value.
+// The standing directions of all sources.
 #![tactic(auto)]
 
 ghost use Rattle.std.specs.Prelude.{◌≡◌, [], ◌∷◌, ◌++◌, ◌+◌, ◌-◌, ◌*◌, ◌≤◌, ◌<◌, take, drop, replicate};
@@ -28,33 +28,31 @@ pub type Standing = [f32; PLACES];
 pub type Counts = [Count; SOURCES];
 
 // Another direction j of a source.
-pub fn put(standing: Standing, source: usize, j: usize, az: f32, el: f32) -> Standing
+pub fn put(standing: &mut Standing, source: usize, j: usize, az: f32, el: f32)
     requires { (source < most_sources) × (j < depth) }
-    ensures { result ≡ sets standing (source * (depth * 2) + j * 2) (az ∷ el ∷ []) }
+    ensures { standing.new ≡ sets standing.old (source * (depth * 2) + j * 2) (az ∷ el ∷ []) }
 {
     let k = source * WIDTH + j * 2;
-    let mut r = standing;
-    r[k] = az;
-    r[k + 1] = el;
-    r
+    standing[k] = az;
+    standing[k + 1] = el;
 }
 
 // The direction at `last` moved to `first`, and +0 into the places after it.
-fn keep_last(standing: Standing, first: usize, last: usize) -> Standing
+fn keep_last(standing: &mut Standing, first: usize, last: usize)
     requires { (first + depth * 2 ≤ most_sources * (depth * 2)) × (last + 2 ≤ most_sources * (depth * 2)) }
-    ensures { result ≡ sets standing first (take 2 (drop last standing) ++ replicate (depth * 2 - 2) +0) }
+    ensures { standing.new ≡ sets standing.old first (take 2 (drop last standing.old) ++ replicate (depth * 2 - 2) +0) }
 {
-    let mut r = standing;
-    r[first] = standing[last];
-    r[first + 1] = standing[last + 1];
-    r[first + 2..first + WIDTH].fill(0.0);
-    r
+    let az = standing[last];
+    let el = standing[last + 1];
+    standing[first] = az;
+    standing[first + 1] = el;
+    standing[first + 2..first + WIDTH].fill(0.0);
 }
 
 // Of a source direction j alone, in its first place.
-pub fn keep(standing: Standing, source: usize, j: usize) -> Standing
+pub fn keep(standing: &mut Standing, source: usize, j: usize)
     requires { (source < most_sources) × (j < depth) }
-    ensures { result ≡ sets standing (source * (depth * 2)) (take 2 (drop (source * (depth * 2) + j * 2) standing) ++ replicate (depth * 2 - 2) +0) }
+    ensures { standing.new ≡ sets standing.old (source * (depth * 2)) (take 2 (drop (source * (depth * 2) + j * 2) standing.old) ++ replicate (depth * 2 - 2) +0) }
 {
     let first = source * WIDTH;
     keep_last(standing, first, first + j * 2)

@@ -1,40 +1,14 @@
--- `session_calls::place` meets its contract: its refusals, then the count and the direction stored. Assumes nothing.
-use Prim.Native.Nat.{◌<◌}
-use mathlib.Core.Path.{refl, sym}
-use native.Mathlib.Omega.{arith}
+-- `session_calls::place` meets its contract: a refused session is not given back, and an accepted one is what the call on the lent one left. Assumes nothing.
+use mathlib.Core.Path.{sym, ap, ◌∙◌}
 use Rattle.std.proofs.lemmas.Result.{err_from_is_err_and}
-use Rattle.session_history.specs.History.{depth}
-use Rattle.session_calls.specs.Session.{standing_count}
-use Rattle.session_calls.proofs.Refusals.{Passed, refused, place_passed}
-use Rattle.session_calls.proofs.Answers.{refused_as, accepted_as, placed_as}
+use Rattle.session_history.specs.Calls.{place}
+use Rattle.session_calls.specs.Answers.{Answer}
+use Rattle.session_calls.proofs.Refusals.{refused}
+use Rattle.session_calls.proofs.Answers.{refused_left}
 use Rattle.session_calls.proofs.place.Goals as goal
-use Rattle.session_calls.proofs.place.Goals.{In_ok-place_refusal}
 
-went : (c : In_ok-place_refusal)
-    → let a = c.args in
-    Passed a.s a.source × (standing_count a.s a.source < depth)
-went c = place_passed _ _ _ _ (sym c.in_ok-place_refusal.ensures)
-
-pub returns-in_err-place_refusal : goal.returns-in_err-place_refusal
-returns-in_err-place_refusal c =
+pub returns-in_err-place_on : goal.returns-in_err-place_on
+returns-in_err-place_on c =
+    let a = c.args in
     let p = err_from_is_err_and c.from_residual.result c.from_residual.ensures.1 in
-    rw (p.1, p.2) (refused_as _ _ c.in_err-place_refusal.ensures (refused _))
-
-pub bounds-s-source : goal.bounds-s-source
-bounds-s-source c = (went (goal.at.bounds-s-source c).In_ok-place_refusal).0.source
-
-pub put-placed-requires : goal.put-placed-requires
-put-placed-requires c =
-    let w = went (goal.at.put-placed-requires c).In_ok-place_refusal in
-    (w.0.source, w.1)
-
-pub overflow_add-n : goal.overflow_add-n
-overflow_add-n c = omega (arith, (went (goal.at.overflow_add-n c).In_ok-place_refusal).1)
-
-pub stood-requires : goal.stood-requires
-stood-requires c = (went (goal.at.stood-requires c).In_ok-place_refusal).0.source
-
-pub returns : goal.returns
-returns c =
-    accepted_as _ _ c.in_ok-place_refusal.ensures refl
-    (placed_as _ _ _ _ c.finite_or_0.ensures c.finite_or_0-2.ensures c.put-placed.ensures c.stood.ensures)
+    rw (p.1, p.2) (refused_left a.s (place a.source a.az a.el) (refused _) c.in_err-place_on.ensures)

@@ -17,8 +17,8 @@ pub returns : goal.returns
 unfolding of_bits
 returns c =
     let a = c.args in
-    let long : length a.standing ≡ most_sources * (depth * 2) = c.well_formed.0.1.0.1 in
+    let long : length a.standing.now ≡ most_sources * (depth * 2) = omega arith in
     let filled : c.fill.new.self ≡ replicate (depth * 2 - 2) +0 = search rules in
-    let r = set (set a.standing a.first (get_or a.standing a.last nan)) (a.first + 1) (get_or a.standing (a.last + 1) nan) in
+    let r = set (set a.standing.now a.first (get_or a.standing.now a.last nan)) (a.first + 1) (get_or a.standing.now (a.last + 1) nan) in
     ap (λ (x : List Float). put_mid (a.first + 2) (a.first + depth * 2 - (a.first + 2)) r x) filled
-    ∙ part_two a.standing a.first (a.first + depth * 2) a.last nan (replicate (depth * 2 - 2) +0) (omega arith) (omega arith) (omega arith)
+    ∙ part_two a.standing.now a.first (a.first + depth * 2) a.last nan (replicate (depth * 2 - 2) +0) (omega arith) (omega arith) (omega arith)
