@@ -55,6 +55,19 @@ module _ (s : Session) (i : ℕ) where
   unfolding target
   target_at k e = ap (λ (k : ℕ). target_row s.panner (standing_count s i) (get_or s.standing (at i k) nan) (get_or s.standing (at i k + 1) nan)) e
 
+  pub target_none : standing_count s i ≡ 0 → replicate s.panner.num_outputs +0 ≡ target s i
+  unfolding target
+  target_none h = row_none s.panner (standing_count s i) _ _ h
+
+  pub target_last : (k : ℕ) → k + 1 ≡ standing_count s i
+      → row_of (layout_in s.panner) s.panner.num_outputs (get_or s.standing (at i k) nan) (get_or s.standing (at i k + 1) nan) ≡ target s i
+  unfolding target
+  target_last k e =
+      row_some s.panner (standing_count s i) _ _ (λ z. absurd (not-zero k (e ∙ z))) ∙ target_at k (omega arith)
+    where
+      not-zero : (k : ℕ) → k + 1 ≡ 0 → ⊥
+      not-zero k e = omega arith
+
   start_new : i < s.sources → new_start s i ≡ target s i ++ drop s.panner.num_outputs (start_row s i)
   unfolding new_start
   start_new h = rw (lt-ltb i s.sources h)

@@ -6,17 +6,15 @@ ghost use mathlib.Core.List.{flat_map};
 ghost use Rattle.std.specs.Float.{nan};
 ghost use Rattle.refusals.specs.Refusals.{number_in};
 ghost use Rattle.lists.specs.Lists.{range};
-ghost use Rattle.layout_record.specs.Malformed.{malformed_of};
 ghost use Rattle.mix_block.specs.Limits.{most_sources, row_places};
 ghost use Rattle.session_history.specs.Calls.{render};
-ghost use Rattle.session_calls.specs.Session.{malformed_session, number_of, target_row, target, new_start, rendered_buffer};
-ghost use Rattle.session_calls.specs.Answers.{answer_of, answered};
+ghost use Rattle.session_calls.specs.Session.{malformed_session, number_of, target, new_start, rendered_buffer};
+ghost use Rattle.session_calls.specs.Answers.{answer_of, answered, left};
 
-use layout_record::VbapPanner;
 use mix_block::{ROW, Starts};
 use refusals::Refusal;
 use session_calls::Session;
-use session_standing::{Count, WIDTH};
+use session_standing::WIDTH;
 
 // The longest block, in samples. Origin: document 01, refusal 8.
 const LONGEST_BLOCK: usize = 1024;
@@ -43,17 +41,19 @@ fn refusal(s: &Session, block: usize, samples: &[f32], outputs: &[f32]) -> Resul
     Ok(())
 }
 
-// The row of a source of which n directions stand, by the last of them: +0 throughout where none stands.
-fn target(panner: &VbapPanner, n: Count, az: f32, el: f32, row: &mut [f32])
-    requires { (malformed_of panner.now ≡ false) × (length row.old ≡ panner.now.num_outputs) }
-    ensures { row.new ≡ target_row panner.now n az el }
+// The row of source i by the last direction that stands: +0 throughout where none stands.
+fn target(s: &Session, i: usize, row: &mut [f32])
+    requires { (malformed_session s.now ≡ false) × (i < most_sources) × (length row.old ≡ s.now.panner.num_outputs) }
+    ensures { row.new ≡ target s.now i }
 {
-    if n == 0 {
-        row_places::zero(row);
-        return;
+    match s.counts[i].checked_sub(1) {
+        None => row_places::zero(row),
+        Some(j) => {
+            let last = i * WIDTH + (j as usize) * 2;
+            // of a record that is not malformed no row is refused
+            let _ = row_gains::gains(&s.panner, s.standing[last], s.standing[last + 1], row);
+        }
     }
-    // of a record that is not malformed no row is refused
-    let _ = row_gains::gains(panner, az, el, row);
 }
 
 // The start rows after a render: for each source its target, the places from outputs on unchanged.
@@ -65,35 +65,26 @@ fn new_starts(s: &Session) -> Starts
     let outputs = s.panner.num_outputs as usize;
     let mut next = s.starts;
     for i in 0..s.sources as usize {
-        let n = s.counts[i];
-        // the last of n directions, and the first place where none stands
-        let last = i * WIDTH + (n.saturating_sub(1) as usize) * 2;
         let a = i * ROW;
-        target(
-            &s.panner,
-            n,
-            s.standing[last],
-            s.standing[last + 1],
-            &mut next[a..a + outputs],
-        );
+        target(s, i, &mut next[a..a + outputs]);
     }
     next
 }
 
-// `block` samples of each source, added to the output buffer; each start row becomes its target. An `Err` leaves the buffer, and the caller's session, as it is.
-pub fn render(
-    s: Session,
+// `block` samples of each source, added to the output buffer; each start row becomes its target. An `Err` leaves the buffer and the session as they are.
+pub fn render_on(
+    s: &mut Session,
     block: usize,
     samples: &[f32],
     outputs: &mut [f32],
-) -> Result<Session, Refusal>
+) -> Result<(), Refusal>
     // The program's choice: sign and payload of a gain that is a NaN, in the start rows of a hand-made layout. Every choice is a quiet NaN. Every other number is the definition's, bit for bit.
-    ensures value { answered s result ≡ answer_of s (render block samples.now outputs.old) }
+    ensures value { left result s.new ≡ answer_of s.old (render block samples.now outputs.old) }
     // The program's choice: sign and payload of a ramped sample that is a NaN. Every choice is a quiet NaN. A refused render leaves every sample as it is.
-    ensures outputs_after { outputs.new ≡ rendered_buffer s block samples.now outputs.old }
+    ensures outputs_after { outputs.new ≡ rendered_buffer s.old block samples.now outputs.old }
 {
-    refusal(&s, block, samples, &*outputs)?;
-    let to = new_starts(&s);
+    refusal(&*s, block, samples, &*outputs)?;
+    let to = new_starts(&*s);
     mix_block::mix(
         block,
         s.panner.num_outputs as usize,
@@ -103,5 +94,21 @@ pub fn render(
         &to,
         outputs,
     );
-    Ok(session_calls::with_starts(s, to))
+    s.starts = to;
+    Ok(())
+}
+
+// The same on a session by value. An `Err` leaves the buffer, and the caller's session, as it is.
+pub fn render(
+    s: Session,
+    block: usize,
+    samples: &[f32],
+    outputs: &mut [f32],
+) -> Result<Session, Refusal>
+    ensures value { answered s result ≡ answer_of s (render block samples.now outputs.old) }
+    ensures outputs_after { outputs.new ≡ rendered_buffer s block samples.now outputs.old }
+{
+    let mut s = s;
+    render_on(&mut s, block, samples, outputs)?;
+    Ok(s)
 }

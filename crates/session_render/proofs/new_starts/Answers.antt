@@ -42,19 +42,6 @@ pub loop-i-init : goal.loop-i-init
 loop-i-init c =
     (whole (goal.at.loop-i-init c).Start, renewed_none row_places _ (new_start c.args.s.now), λ j h. absurd (not-suc-le-zero h))
 
-pub bounds-s-i : goal.bounds-s-i
-bounds-s-i c = (low (goal.at.bounds-s-i c).In-loop-i).source
-
-pub bounds-s-last : goal.bounds-s-last
-bounds-s-last c =
-    let l = low (goal.at.bounds-s-last c).In-loop-i in
-    omega (arith, l.source, l.few, c.saturating_sub.ensures)
-
-pub bounds-s-last-in-loop-i : goal.bounds-s-last-in-loop-i
-bounds-s-last-in-loop-i c =
-    let l = low (goal.at.bounds-s-last-in-loop-i c).In-loop-i in
-    omega (arith, l.source, l.few, c.saturating_sub.ensures)
-
 pub slice_bounds-next-end : goal.slice_bounds-next-end
 slice_bounds-next-end c =
     let l = low (goal.at.slice_bounds-next-end c).In-loop-i in
@@ -63,14 +50,14 @@ slice_bounds-next-end c =
 pub target-requires : goal.target-requires
 target-requires c =
     let l = low (goal.at.target-requires c).In-loop-i in
-    ((formed c.args.s.now c.requires).panner, part_long c.loop-i.next (c.loop-i.i * row_places) c.args.s.now.panner.num_outputs (omega (arith, l.source, l.outputs, c.loop-i.invariant.0)))
+    (c.requires, l.source, part_long c.loop-i.next (c.loop-i.i * row_places) c.args.s.now.panner.num_outputs (omega (arith, l.source, l.outputs, c.loop-i.invariant.0)))
 
 pub loop-i-preserved : goal.loop-i-preserved
 loop-i-preserved c =
     let s = c.args.s.now in
     let i = c.loop-i.i in
     let l = low (goal.at.loop-i-preserved c).In-loop-i in
-    let is : c.target.new.row ≡ target s i = c.target.ensures ∙ target_at s i _ c.saturating_sub.ensures in
+    let is : c.target.new.row ≡ target s i = c.target.ensures in
     let long = c.target.auto.row ∙ part_long c.loop-i.next (i * row_places) s.panner.num_outputs (omega (arith, l.source, l.outputs, c.loop-i.invariant.0)) in (
       same_len_mid (i * row_places) (i * row_places + s.panner.num_outputs - i * row_places) c.loop-i.next c.target.new.row c.target.auto.row ∙ c.loop-i.invariant.0,
       row_made s (whole (goal.at.loop-i-preserved c).Start) i c.target.new.row l.outputs l.source c.loop-i-test.true is long c.loop-i.invariant.1,

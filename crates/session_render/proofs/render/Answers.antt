@@ -1,45 +1,12 @@
--- `session_render::render` meets its contract: a refusal leaves session and buffer, and else the new start rows and the mix are the definition's. Assumes nothing.
-use mathlib.Core.Path.{refl, sym, ◌∙◌}
+-- `session_render::render` meets its contract: a refused session is not given back, and an accepted one is what the render on the lent one left. Assumes nothing.
 use Rattle.std.proofs.lemmas.Result.{err_from_is_err_and}
-use Rattle.session_calls.proofs.Refusals.{formed, refused}
-use Rattle.session_calls.proofs.Answers.{refused_as}
-use Rattle.session_render.proofs.Numbers.{Admitted, admitted, outputs_low}
-use Rattle.session_render.proofs.Mixing.{mix_same}
-use Rattle.session_render.proofs.Answers.{buffer_refused, render_done, buffer_done}
+use Rattle.session_history.specs.Calls.{render}
+use Rattle.session_calls.proofs.Refusals.{refused}
+use Rattle.session_calls.proofs.Answers.{refused_left}
 use Rattle.session_render.proofs.render.Goals as goal
-use Rattle.session_render.proofs.render.Goals.{In_ok-refusal}
 
-passed : (c : In_ok-refusal)
-    → let s = c.args in
-    Admitted s.s s.block s.samples.now s.outputs.now
-passed c = admitted _ _ _ _ (sym c.in_ok-refusal.ensures)
-
-pub returns-in_err-refusal-clause-value : goal.returns-in_err-refusal-clause-value
-returns-in_err-refusal-clause-value c =
+pub returns-in_err-render_on-clause-value : goal.returns-in_err-render_on-clause-value
+returns-in_err-render_on-clause-value c =
+    let a = c.args in
     let p = err_from_is_err_and c.from_residual.result c.from_residual.ensures.1 in
-    rw (p.1, p.2) (refused_as _ _ c.in_err-refusal.ensures (refused _))
-
-pub returns-in_err-refusal-clause-outputs_after : goal.returns-in_err-refusal-clause-outputs_after
-returns-in_err-refusal-clause-outputs_after c =
-    let s = c.args in
-    buffer_refused s.s s.block s.samples.now s.outputs.now c.in_err-refusal.ensures (refused _)
-
-pub new_starts-to-requires : goal.new_starts-to-requires
-new_starts-to-requires c = (passed (goal.at.new_starts-to-requires c).In_ok-refusal).formed
-
-pub mix-requires : goal.mix-requires
-mix-requires c =
-    let p = passed (goal.at.mix-requires c).In_ok-refusal in
-    (outputs_low c.args.s p.formed, (formed c.args.s p.formed).few, p.sampled, p.lent)
-
-pub returns-clause-value : goal.returns-clause-value
-returns-clause-value c =
-    let s = c.args in
-    render_done s.s s.block s.samples.now s.outputs.now c.in_ok-refusal.ensures refl c.new_starts-to.ensures.made c.with_starts.ensures
-
-pub returns-clause-outputs_after : goal.returns-clause-outputs_after
-returns-clause-outputs_after c =
-    let s = c.args in
-    c.mix.ensures
-    ∙ mix_same s.s s.block s.samples.now c.new_starts-to.result (outputs_low s.s (passed (goal.at.returns-clause-outputs_after c).In_ok-refusal).formed) c.new_starts-to.ensures.gains s.outputs.now
-    ∙ buffer_done s.s s.block s.samples.now s.outputs.now c.in_ok-refusal.ensures refl
+    rw (p.1, p.2) (refused_left a.s (render a.block a.samples.now a.outputs.now) (refused _) c.in_err-render_on.ensures.value)
