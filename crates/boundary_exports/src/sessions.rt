@@ -45,9 +45,9 @@ pub fn panner_place(
     ensures bytes { bytes.new ≡ bytes_left bytes.old (answer_of (session_from bytes.old floats.old) (place source az el)) }
     ensures floats { floats.new ≡ floats_left floats.old (answer_of (session_from bytes.old floats.old) (place source az el)) }
 {
-    let s = taken_in(bytes, floats);
-    let r = session_calls::place(s, source, az, el);
-    leave(r, bytes, floats)
+    let mut s = taken_in(bytes, floats);
+    let r = session_calls::place_on(&mut s, source, az, el);
+    leave(r, &s, bytes, floats)
 }
 
 // `session_calls::take_back`. Every float travels.
@@ -56,9 +56,9 @@ pub fn panner_take_back(bytes: &mut SessionBytes, floats: &mut SessionFloats, so
     ensures bytes { bytes.new ≡ bytes_left bytes.old (answer_of (session_from bytes.old floats.old) (take_back source)) }
     ensures floats { floats.new ≡ floats_left floats.old (answer_of (session_from bytes.old floats.old) (take_back source)) }
 {
-    let s = taken_in(bytes, floats);
-    let r = session_calls::take_back(s, source);
-    leave(r, bytes, floats)
+    let mut s = taken_in(bytes, floats);
+    let r = session_calls::take_back_on(&mut s, source);
+    leave(r, &s, bytes, floats)
 }
 
 // `session_calls::settle`. Every float travels, the moved direction of a session made by hand too: it keeps its bits.
@@ -67,9 +67,9 @@ pub fn panner_settle(bytes: &mut SessionBytes, floats: &mut SessionFloats, sourc
     ensures bytes { bytes.new ≡ bytes_left bytes.old (answer_of (session_from bytes.old floats.old) (settle source)) }
     ensures floats { floats.new ≡ floats_left floats.old (answer_of (session_from bytes.old floats.old) (settle source)) }
 {
-    let s = taken_in(bytes, floats);
-    let r = session_calls::settle(s, source);
-    leave(r, bytes, floats)
+    let mut s = taken_in(bytes, floats);
+    let r = session_calls::settle_on(&mut s, source);
+    leave(r, &s, bytes, floats)
 }
 
 // `session_render::render`. A NaN among the outputs, and in the start rows of a session whose layout was made by hand, is computed: its sign and
@@ -86,9 +86,9 @@ pub fn panner_render(
     ensures floats { floats.new ≡ floats_left floats.old (answer_of (session_from bytes.old floats.old) (render block samples.now outputs.old)) }
     ensures buffer { outputs.new ≡ rendered_buffer (session_from bytes.old floats.old) block samples.now outputs.old }
 {
-    let s = taken_in(bytes, floats);
-    let r = session_render::render(s, block, samples, outputs);
-    leave(r, bytes, floats)
+    let mut s = taken_in(bytes, floats);
+    let r = session_render::render_on(&mut s, block, samples, outputs);
+    leave(r, &s, bytes, floats)
 }
 
 // For each direction a place and a take back, up to the first that is refused, on a session that is read once; where one is refused, nothing is written.
@@ -104,8 +104,6 @@ pub fn panner_place_take_back_all(
     ensures floats { floats.new ≡ floats_left floats.old (place_take_back (session_from bytes.old floats.old) source az.now el.now) }
 {
     let mut s = taken_in(bytes, floats);
-    match boundary_records::directions::place_take_back(&mut s, source, az, el) {
-        Ok(()) => leave(Ok(s), bytes, floats),
-        Err(why) => why.number(),
-    }
+    let r = boundary_records::directions::place_take_back(&mut s, source, az, el);
+    leave(r, &s, bytes, floats)
 }

@@ -32,8 +32,8 @@ pub fn place_take_back(
     ensures { left_beside result s.new ≡ place_take_back s.old source az.now el.now }
 {
     for i in 0..az.len().min(el.len()) {
-        *s = session_calls::place(*s, source, az[i], el[i])?;
-        *s = session_calls::take_back(*s, source)?;
+        session_calls::place_on(&mut *s, source, az[i], el[i])?;
+        session_calls::take_back_on(&mut *s, source)?;
     }
     Ok(())
 }

@@ -6,10 +6,9 @@
 ghost use Rattle.std.specs.Prelude.{◌≡◌, ◌++◌, take};
 ghost use Rattle.refusals.specs.Refusals.{number_in};
 ghost use Rattle.session_calls.specs.declared.Session.{Session};
-ghost use Rattle.session_calls.specs.Answers.{answered};
 ghost use Rattle.mix_block.specs.Limits.{most_sources};
 ghost use Rattle.boundary_records.specs.Places.{record_byte_places, record_float_places, counts_at, start_places, standing_at, standing_places, session_byte_places, session_float_places};
-ghost use Rattle.boundary_records.specs.Sessions.{session_bytes, session_floats, own_bytes, own_floats, session_from, bytes_left, floats_left};
+ghost use Rattle.boundary_records.specs.Sessions.{session_bytes, session_floats, own_bytes, own_floats, session_from, bytes_left, floats_left, left_beside};
 
 use crate::copies::{put, section};
 use crate::record;
@@ -69,20 +68,20 @@ pub fn hand_out(s: &Session, bytes: &mut SessionBytes, floats: &mut SessionFloat
     hand_out_own(s, bytes, floats);
 }
 
-// The answer of a call on a session that was read from the arrays: its number, and the session's own part where it is accepted. A call leaves the layout as it is.
+// The answer of a call on the session s that was read from the arrays: its number, and the session's own part where it is accepted. A call leaves the layout as it is.
 pub fn leave(
-    answer: Result<Session, Refusal>,
+    answer: Result<(), Refusal>,
+    s: &Session,
     bytes: &mut SessionBytes,
     floats: &mut SessionFloats,
 ) -> u32
     ensures number { result ≡ number_in answer }
-    // whatever session the call was on
-    ensures bytes { (s : Session) → bytes.new ≡ bytes_left bytes.old (answered s answer) }
-    ensures floats { (s : Session) → floats.new ≡ floats_left floats.old (answered s answer) }
+    ensures bytes { bytes.new ≡ bytes_left bytes.old (left_beside answer s.now) }
+    ensures floats { floats.new ≡ floats_left floats.old (left_beside answer s.now) }
 {
     match answer {
-        Ok(s) => {
-            hand_out_own(&s, bytes, floats);
+        Ok(()) => {
+            hand_out_own(s, bytes, floats);
             0
         }
         Err(why) => why.number(),

@@ -8,5 +8,5 @@ use Rattle.boundary_exports.proofs.sessions.panner_place.Goals as goal
 pub returns : goal.returns
 returns c =
     let given = c.args in
-    let k = left given.bytes.now given.floats.now (λ (s : Session). answer_of s (place given.source given.az given.el)) _ c.taken_in-s.ensures c.place-r.ensures c.leave.ensures.number c.leave.ensures.bytes c.leave.ensures.floats in
+    let k = left given.bytes.now given.floats.now (λ (s : Session). answer_of s (place given.source given.az given.el)) c.taken_in-s.ensures c.place_on-r.ensures c.leave.ensures.number c.leave.ensures.bytes c.leave.ensures.floats in
     record { number = k.0; bytes = k.1.0; floats = k.1.1 }

@@ -9,10 +9,10 @@ use Rattle.boundary_exports.proofs.sessions.panner_render.Goals as goal
 pub returns : goal.returns
 returns c =
     let given = c.args in
-    let k = left given.bytes.now given.floats.now (λ (s : Session). answer_of s (render given.block given.samples.now given.outputs.now)) _ c.taken_in-s.ensures c.render-r.ensures.value c.leave.ensures.number c.leave.ensures.bytes c.leave.ensures.floats in
+    let k = left given.bytes.now given.floats.now (λ (s : Session). answer_of s (render given.block given.samples.now given.outputs.now)) c.taken_in-s.ensures c.render_on-r.ensures.value c.leave.ensures.number c.leave.ensures.bytes c.leave.ensures.floats in
     record {
       number = k.0;
       bytes = k.1.0;
       floats = k.1.1;
-      buffer = seen (λ (s : Session). rendered_buffer s given.block given.samples.now given.outputs.now) c.taken_in-s.ensures c.render-r.ensures.outputs_after;
+      buffer = seen (λ (s : Session). rendered_buffer s given.block given.samples.now given.outputs.now) c.taken_in-s.ensures c.render_on-r.ensures.outputs_after;
     }

@@ -8,5 +8,5 @@ use Rattle.boundary_exports.proofs.sessions.panner_settle.Goals as goal
 pub returns : goal.returns
 returns c =
     let given = c.args in
-    let k = left given.bytes.now given.floats.now (λ (s : Session). answer_of s (settle given.source)) _ c.taken_in-s.ensures c.settle-r.ensures c.leave.ensures.number c.leave.ensures.bytes c.leave.ensures.floats in
+    let k = left given.bytes.now given.floats.now (λ (s : Session). answer_of s (settle given.source)) c.taken_in-s.ensures c.settle_on-r.ensures c.leave.ensures.number c.leave.ensures.bytes c.leave.ensures.floats in
     record { number = k.0; bytes = k.1.0; floats = k.1.1 }

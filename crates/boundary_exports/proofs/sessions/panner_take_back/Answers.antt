@@ -8,5 +8,5 @@ use Rattle.boundary_exports.proofs.sessions.panner_take_back.Goals as goal
 pub returns : goal.returns
 returns c =
     let given = c.args in
-    let k = left given.bytes.now given.floats.now (λ (s : Session). answer_of s (take_back given.source)) _ c.taken_in-s.ensures c.take_back-r.ensures c.leave.ensures.number c.leave.ensures.bytes c.leave.ensures.floats in
+    let k = left given.bytes.now given.floats.now (λ (s : Session). answer_of s (take_back given.source)) c.taken_in-s.ensures c.take_back_on-r.ensures c.leave.ensures.number c.leave.ensures.bytes c.leave.ensures.floats in
     record { number = k.0; bytes = k.1.0; floats = k.1.1 }

@@ -8,24 +8,24 @@ use Rattle.boundary_records.proofs.directions.place_take_back.Goals as goal
 pub loop-i-init : goal.loop-i-init
 loop-i-init c = refl
 
-pub returns-in_err-s : goal.returns-in_err-s
-returns-in_err-s c =
+pub returns-in_err-place_on : goal.returns-in_err-place_on
+returns-in_err-place_on c =
     let a = c.args in
     let p = err_from_is_err_and c.from_residual.result c.from_residual.ensures.1 in
     rw (p.1, p.2)
-    (sym (place_refused c.loop-i.s a.source a.az.now a.el.now c.loop-i.i _ (omega arith) (omega arith) c.in_err-s.ensures (refused _)) ∙ c.loop-i.invariant)
+    (sym (place_refused c.loop-i.s a.source a.az.now a.el.now c.loop-i.i _ (omega arith) (omega arith) c.in_err-place_on.ensures (refused _)) ∙ c.loop-i.invariant)
 
-pub returns-in_err-s-2 : goal.returns-in_err-s-2
-returns-in_err-s-2 c =
+pub returns-in_err-take_back_on : goal.returns-in_err-take_back_on
+returns-in_err-take_back_on c =
     let a = c.args in
-    let p = err_from_is_err_and c.from_residual-in_err-s-2.result c.from_residual-in_err-s-2.ensures.1 in
+    let p = err_from_is_err_and c.from_residual-in_err-take_back_on.result c.from_residual-in_err-take_back_on.ensures.1 in
     rw (p.1, p.2)
-    (sym (take_refused c.loop-i.s a.source a.az.now a.el.now c.loop-i.i _ (omega arith) (omega arith) c.in_ok-s.ensures _ c.in_err-s-2.ensures refl (refused _)) ∙ c.loop-i.invariant)
+    (sym (take_refused c.loop-i.s a.source a.az.now a.el.now c.loop-i.i _ (omega arith) (omega arith) c.in_ok-place_on.ensures _ c.in_err-take_back_on.ensures refl (refused _)) ∙ c.loop-i.invariant)
 
 pub loop-i-preserved : goal.loop-i-preserved
 loop-i-preserved c =
     let a = c.args in
-    sym (both_accepted c.loop-i.s a.source a.az.now a.el.now c.loop-i.i _ (omega arith) (omega arith) c.in_ok-s.ensures _ c.in_ok-s-2.ensures refl refl) ∙ c.loop-i.invariant
+    sym (both_accepted c.loop-i.s a.source a.az.now a.el.now c.loop-i.i _ (omega arith) (omega arith) c.in_ok-place_on.ensures _ c.in_ok-take_back_on.ensures refl refl) ∙ c.loop-i.invariant
 
 pub returns : goal.returns
 returns c =

@@ -6,16 +6,16 @@ use Rattle.boundary_records.proofs.sessions.leave.Goals as goal
 
 pub returns-in-Ok-clause-bytes : goal.returns-in-Ok-clause-bytes
 unfolding bytes_left
-returns-in-Ok-clause-bytes c = λ s. rw c.in-Ok.is c.hand_out_own.ensures.bytes
+returns-in-Ok-clause-bytes c = rw c.in-Ok.is c.hand_out_own.ensures.bytes
 
 pub returns-in-Ok-clause-floats : goal.returns-in-Ok-clause-floats
 unfolding floats_left
-returns-in-Ok-clause-floats c = λ s. rw c.in-Ok.is c.hand_out_own.ensures.floats
+returns-in-Ok-clause-floats c = rw c.in-Ok.is c.hand_out_own.ensures.floats
 
 pub returns-in-Err-clause-bytes : goal.returns-in-Err-clause-bytes
 unfolding bytes_left
-returns-in-Err-clause-bytes c = λ s. rw (c.in-Err.is, ne_eqb _ 0 (refused c.in-Err.why))
+returns-in-Err-clause-bytes c = rw (c.in-Err.is, ne_eqb _ 0 (refused c.in-Err.why))
 
 pub returns-in-Err-clause-floats : goal.returns-in-Err-clause-floats
 unfolding floats_left
-returns-in-Err-clause-floats c = λ s. rw (c.in-Err.is, ne_eqb _ 0 (refused c.in-Err.why))
+returns-in-Err-clause-floats c = rw (c.in-Err.is, ne_eqb _ 0 (refused c.in-Err.why))
