@@ -6,8 +6,9 @@ use lib.Ieee.Bits.{nan_bits_is, nan_bits_above}
 use lib.Ieee.Compare.{nan_differs, differs_from_itself}
 use Rattle.test_lines.specs.declared.values.Value.TheVariants.{Bits, Nan}
 use Rattle.test_lines.specs.Values.{pattern_of}
-use Rattle.test_lines.proofs.Walk.{yes, no}
+use Rattle.std.proofs.lemmas.Bool.{cond-true, cond-false}
 
+-- no lemma of the library says it
 is_nan_lem : (x : Float) → is_nan x ≡ true → x ≡ nan
 unfolding is_nan
 is_nan_lem nan e = refl
@@ -30,7 +31,7 @@ real (fin s m e) h = refl
 
 pub pattern_nan : (f : Format) (x : Float) → ne x x ≡ true → Nan ≡ pattern_of f x
 unfolding is_nan
-pattern_nan f x h = sym (yes (is_nan x) Nan (Bits (to_bits f x)) (ap is_nan (differs_from_itself x (subst T (sym h) tt))))
+pattern_nan f x h = sym (cond-true (is_nan x) Nan (Bits (to_bits f x)) (ap is_nan (differs_from_itself x (subst T (sym h) tt))))
 
 pub pattern_real : (f : Format) (x : Float) → ne x x ≡ false → Bits (to_bits f x) ≡ pattern_of f x
-pattern_real f x h = sym (no (is_nan x) Nan (Bits (to_bits f x)) (real x h))
+pattern_real f x h = sym (cond-false (is_nan x) Nan (Bits (to_bits f x)) (real x h))

@@ -1,17 +1,11 @@
 -- What each definition of specs/Words.antt says of a list from an index on: at its end, and one byte further. Assumes nothing.
 use Rattle.std.proofs.Common.{◌≡◌, ltb, ltb-false, Option, Some, None, ℕ, suc, ◌+◌, ◌-◌, ◌*◌, ◌^◌, ◌<◌, ◌≤◌, Bool, true, false, ◌&&◌, cond, eqb, List, [], ◌∷◌, length, get_or, take, drop, min, length-take, refl, sym, ap, ◌∙◌, suc-le-suc, zero-le, add-one, arith, length-drop, drop_of_length-le, drop-cons, pow_mono, pow-add, le-ltb, lt-ltb}
+use Rattle.std.proofs.lemmas.Bool.{cond-true, cond-false}
 use Rattle.std.specs.List.{position_or_len, list_all}
 use Rattle.std.specs.Str.{bytes_eq}
 use Rattle.std.specs.Option.{unwrap_or}
 use Rattle.std.proofs.lemmas.List.Recursion.{is_position_or_len}
 use Rattle.test_lines.specs.Words.{digit_of, value_from, span_to, same_of, is_name_byte, all_name, number_of, other_of, kind_of}
-
-module _ {A : Type 0} where
-  pub yes : (b : Bool) (x y : A) → b ≡ true → cond b x y ≡ x
-  yes b x y e = ap (λ (t : Bool). cond t x y) e
-
-  pub no : (b : Bool) (x y : A) → b ≡ false → cond b x y ≡ y
-  no b x y e = ap (λ (t : Bool). cond t x y) e
 
 -- the list from an index on is the byte there and the list from the next index on
 pub from_index : (w : List ℕ) (i : ℕ) → i < length w → drop i w ≡ get_or w i 0 ∷ drop (i + 1) w
@@ -24,11 +18,11 @@ value_end v w i h = ap (value_from v) (drop_of_length-le w h)
 
 pub value_digit : (v : ℕ) (w : List ℕ) (i : ℕ) → i < length w → digit_of (get_or w i 0) < 16 → value_from v (drop i w) ≡ value_from (v * 16 + digit_of (get_or w i 0)) (drop (i + 1) w)
 unfolding value_from
-value_digit v w i h d = ap (value_from v) (from_index w i h) ∙ yes _ _ None (lt-ltb _ 16 d)
+value_digit v w i h d = ap (value_from v) (from_index w i h) ∙ cond-true _ _ None (lt-ltb _ 16 d)
 
 pub value_other : (v : ℕ) (w : List ℕ) (i : ℕ) → i < length w → 16 ≤ digit_of (get_or w i 0) → value_from v (drop i w) ≡ None
 unfolding value_from
-value_other v w i h d = ap (value_from v) (from_index w i h) ∙ no _ (value_from (v * 16 + digit_of (get_or w i 0)) (drop (i + 1) w)) None (le-ltb _ 16 d)
+value_other v w i h d = ap (value_from v) (from_index w i h) ∙ cond-false _ (value_from (v * 16 + digit_of (get_or w i 0)) (drop (i + 1) w)) None (le-ltb _ 16 d)
 
 -- i digits hold less than 2 ^ (4 * i), and 16 of them fit 64 bits
 pub digits_fit : (v i n : ℕ) → v < 2 ^ (4 * i) → i < n → n ≤ 16 → v * 16 + 16 ≤ 2 ^ 64
@@ -98,4 +92,4 @@ name_is (c ∷ w) = at_test (is_name_byte c) (name_is w)
 
 -- what a word is that is neither empty nor `nan`
 pub kind_by : (w v : List ℕ) (from to : ℕ) (e r : Bool) (o : Option ℕ) → e ≡ eqb (length w) 0 → e ≡ false → v ≡ 110 ∷ 97 ∷ 110 ∷ [] → r ≡ bytes_eq w v → r ≡ false → o ≡ number_of w → other_of o w from to ≡ kind_of w from to
-kind_by w v from to e r o z y a b n h = simp (sym z ∙ y, same_by w v _ r a b ∙ n) (ap (λ (p : Option ℕ). other_of p w from to) (h ∙ no (eqb (length w) 0) None (cond (ltb 16 (length w)) None (value_from 0 w)) (sym z ∙ y)))
+kind_by w v from to e r o z y a b n h = simp (sym z ∙ y, same_by w v _ r a b ∙ n) (ap (λ (p : Option ℕ). other_of p w from to) (h ∙ cond-false (eqb (length w) 0) None (cond (ltb 16 (length w)) None (value_from 0 w)) (sym z ∙ y)))

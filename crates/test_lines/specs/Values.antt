@@ -5,6 +5,8 @@ use Rattle.test_lines.specs.declared.Word.{Word}
 use Rattle.test_lines.specs.declared.Word.TheVariants.{Number, Name, End, Bad}
 use Rattle.test_lines.specs.declared.values.Form.{Form}
 use Rattle.test_lines.specs.declared.values.Form.TheVariants.{Single, Double, Whole, Truth}
+use Rattle.test_lines.specs.declared.values.Role.{Role}
+use Rattle.test_lines.specs.declared.values.Role.TheVariants.{Argument, Expected}
 use Rattle.test_lines.specs.declared.values.Value.{Value}
 use Rattle.test_lines.specs.declared.values.Value.TheVariants.{Bits, Nan}
 use Rattle.test_lines.specs.declared.Malformed.{Malformed}
@@ -14,6 +16,11 @@ is_float Single = true
 is_float Double = true
 is_float Whole = false
 is_float Truth = false
+
+-- only what is expected may be written `nan`
+abbrev pub may_be_nan : Role → Bool
+may_be_nan Argument = false
+may_be_nan Expected = true
 
 -- a pattern has its full width; a whole number has no 0, ASCII 48, in front; a truth value is 0 or 1
 abbrev pub has_form : Form → ℕ → ℕ → ℕ → Bool
@@ -35,3 +42,10 @@ taken_of form e first Bad = Err malformed
 
 abbrev pub pattern_of : Format → Float → Value
 pattern_of f x = cond (is_nan x) Nan (Bits (to_bits f x))
+
+-- bit by bit, a NaN with a NaN
+abbrev pub agree_of : Value → Value → Bool
+agree_of (Bits x) (Bits y) = x == y
+agree_of (Bits x) Nan = false
+agree_of Nan (Bits y) = false
+agree_of Nan Nan = true

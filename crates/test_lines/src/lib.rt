@@ -5,7 +5,7 @@ pub mod lines;
 pub mod report;
 pub mod values;
 
-ghost use Rattle.std.specs.Prelude.{◌≡◌, MatchOption, ◌<◌};
+ghost use Rattle.std.specs.Prelude.{◌≡◌, MatchOption, ◌<◌, ◌≤◌, length};
 ghost use Rattle.test_lines.specs.Words.{digit_of, number_of, span_to, is_name_byte, all_name, kind_of, word_at};
 
 // What a word is.
@@ -62,7 +62,8 @@ pub fn number(w: &[u8]) -> Option<u64>
 
 // How many bytes stand before the first blank.
 fn span(s: &[u8]) -> usize
-    ensures { result ≡ span_to 32 s.now }
+    ensures word { result ≡ span_to 32 s.now }
+    ensures within { result ≤ length s.now }
 {
     s.iter().position(|c| *c == b' ').unwrap_or(s.len())
 }
@@ -134,6 +135,22 @@ impl<'a> Words<'a> {
         let name = self.name()?;
         for (text, of) in names {
             if text.as_bytes() == name {
+                return Ok(*of);
+            }
+        }
+        Err(Malformed)
+    }
+
+    // The same, which counts in what stands at the name's place of a second list.
+    pub fn counted<T: Copy>(
+        &mut self,
+        names: &[(&str, T)],
+        counts: &mut [u64],
+    ) -> Result<T, Malformed> {
+        let name = self.name()?;
+        for ((text, of), count) in names.iter().zip(counts) {
+            if text.as_bytes() == name {
+                *count = count.wrapping_add(1);
                 return Ok(*of);
             }
         }

@@ -28,25 +28,16 @@ pub struct Case<'a> {
 impl<'a> Case<'a> {
     // Its bytes, of a line that is too long or has no line feed the first ones.
     pub fn bytes(self) -> &'a [u8] {
-        match self.line {
-            Ok(line) => line,
-            Err(part) => part,
-        }
+        self.line.unwrap_or_else(|part| part)
     }
 
     // The bytes of a line as it has to be, or none.
     pub fn whole(self) -> &'a [u8] {
-        match self.line {
-            Ok(line) => line,
-            Err(part) => &part[..0],
-        }
+        self.line.unwrap_or(b"")
     }
 
     pub fn words(self) -> Result<Words<'a>, Malformed> {
-        match self.line {
-            Ok(line) => Ok(Words::of(line)),
-            Err(_) => Err(Malformed),
-        }
+        self.line.map(|line| Words::of(line)).map_err(|_| Malformed)
     }
 }
 
@@ -99,7 +90,7 @@ impl<R: Read> Lines<R> {
         }
     }
 
-    // The next case.
+    // The next case. Nothing says that an input ends, so this counts up to a number that no run uses up.
     pub fn next(&mut self) -> Option<Case<'_>> {
         for _ in 0..u64::MAX {
             if self.is_ended {
@@ -117,7 +108,7 @@ impl<R: Read> Lines<R> {
         self.case()
     }
 
-    // Replays the cases that are left, one after the other.
+    // Replays the cases that are left, one after the other, counted as in `next`.
     pub fn each<F: FnMut(Case<'_>) -> io::Result<()>>(&mut self, mut replay: F) -> io::Result<()>
         requires { F.IsAlwaysCallable replay }
     {

@@ -1,8 +1,31 @@
 // What every replay writes to standard output.
+use crate::Malformed;
 use std::{fmt, io};
 
 // How many lines that differ are written. Origin: docs/CASES.md, "Replaying".
 const SHOWN: u64 = 5;
+
+// How a line differs: what was answered, and where, or that its words are not as they have to be. No Option: it is an error, which `?` makes of a malformed line.
+#[derive(Clone, Copy)]
+pub enum Difference<T> {
+    At(T),
+    Malformed,
+}
+
+impl<T> From<Malformed> for Difference<T> {
+    fn from(_: Malformed) -> Difference<T> {
+        Difference::Malformed
+    }
+}
+
+impl<T: fmt::Display> fmt::Display for Difference<T> {
+    fn fmt<W: fmt::Write>(&self, f: &mut fmt::Formatter<W>) -> fmt::Result {
+        match self {
+            Difference::At(what) => write!(f, "{what}"),
+            Difference::Malformed => f.write_str("malformed"),
+        }
+    }
+}
 
 // How many lines differ so far.
 #[derive(Clone, Copy)]
@@ -15,18 +38,21 @@ impl Differences {
         Differences { count: 0 }
     }
 
-    // Counts a line that differs, and writes it where it is among the first.
-    pub fn tell<D: fmt::Display + Drop>(
+    // Counts a line that differs, and writes its number, its bytes, where the replay shows them, and the difference, where it is among the first.
+    pub fn tell<T: fmt::Display + Copy>(
         &mut self,
         out: &impl Print,
         number: u64,
-        line: &[u8],
-        outcome: Result<(), D>,
+        line: Option<&[u8]>,
+        outcome: Result<(), Difference<T>>,
     ) -> io::Result<()> {
         if let Err(difference) = outcome {
             if self.count < SHOWN {
                 print!(out; "line {number}: ")?;
-                out.write_all(line)?;
+                if let Some(line) = line {
+                    out.write_all(line)?;
+                    print!(out; " ")?;
+                }
                 println!(out; "{difference}")?;
             }
             self.count = self.count.wrapping_add(1);

@@ -2,7 +2,7 @@
 ghost use Rattle.std.specs.Prelude.{◌≡◌, ◌≤◌, ◌%◌, ◌^◌, ℕ, from_bits, slice_index, IfOk};
 ghost use Rattle.std.specs.Float.{Format, Float, binary32, binary64};
 ghost use Rattle.test_lines.specs.Words.{word_at};
-ghost use Rattle.test_lines.specs.Values.{is_float, has_form, taken_of, pattern_of};
+ghost use Rattle.test_lines.specs.Values.{is_float, has_form, taken_of, pattern_of, agree_of, may_be_nan};
 
 use crate::{Malformed, Word, Words};
 use std::fmt;
@@ -16,11 +16,27 @@ pub enum Form {
     Truth,
 }
 
+// What a word is to its case: an argument, or what is expected of an answer. Only the second may be the word nan.
+#[derive(Clone, Copy)]
+pub enum Role {
+    Argument,
+    Expected,
+}
+
 // What a word says, or what a function answered. Two of them are the same bit by bit, a NaN and a NaN too. No Option: a NaN is a value like others.
 #[derive(Clone, Copy, PartialEq, Eq)]
 pub enum Value {
     Bits(u64),
     Nan,
+}
+
+impl Value {
+    // Whether two values are the same: bit by bit, a NaN with a NaN.
+    pub fn agrees(self, other: Value) -> bool
+        ensures { result ≡ agree_of self other }
+    {
+        self == other
+    }
 }
 
 // A value as a word of its form.
@@ -56,10 +72,13 @@ impl fmt::Display for Shown {
 fn is_float(form: Form) -> bool
     ensures { result ≡ is_float form }
 {
-    match form {
-        Form::Single | Form::Double => true,
-        Form::Whole | Form::Truth => false,
-    }
+    matches!(form, Form::Single | Form::Double)
+}
+
+fn may_be_nan(role: Role) -> bool
+    ensures { result ≡ may_be_nan role }
+{
+    matches!(role, Role::Expected)
 }
 
 // Whether a number of so many digits, the first of them given, has the form.
@@ -76,7 +95,7 @@ fn has_form(form: Form, first: u8, value: u64, digits: usize) -> bool
 
 // ---- floats and their patterns
 
-// A float by its pattern.
+// A float by its pattern. The two impls differ in the type of the pattern, its conversions and each number: a body for both would hand all of these in.
 pub trait Pattern: Copy {
     ghost format: { Format };
 
@@ -140,22 +159,22 @@ impl Pattern for f64 {
 // ---- what the next words say
 
 impl<'a> Words<'a> {
-    // The next word's value, in a form. An expected float may be the word nan.
-    pub fn take(&mut self, form: Form, expected: bool) -> Result<Value, Malformed>
-        ensures value { result ≡ taken_of form expected (slice_index self.old.line.now self.old.at) (word_at self.old.line.now self.old.at).word }
+    // The next word's value, in a form and a role.
+    pub fn take(&mut self, form: Form, role: Role) -> Result<Value, Malformed>
+        ensures value { result ≡ taken_of form (may_be_nan role) (slice_index self.old.line.now self.old.at) (word_at self.old.line.now self.old.at).word }
         ensures rest { self.new.at ≡ (word_at self.old.line.now self.old.at).next }
     {
         let first = self.line.get(self.at).copied().unwrap_or(0);
         match self.next() {
             Word::Number(v, digits) if has_form(form, first, v, digits) => Ok(Value::Bits(v)),
-            Word::Nan if expected & is_float(form) => Ok(Value::Nan),
+            Word::Nan if may_be_nan(role) & is_float(form) => Ok(Value::Nan),
             _ => Err(Malformed),
         }
     }
 
     // An argument: a float is its pattern, and no nan.
     fn bits(&mut self, form: Form) -> Result<u64, Malformed> {
-        match self.take(form, false)? {
+        match self.take(form, Role::Argument)? {
             Value::Bits(b) => Ok(b),
             Value::Nan => Err(Malformed),
         }
@@ -163,7 +182,7 @@ impl<'a> Words<'a> {
 
     // Whether the next word says what was answered.
     pub fn says<R: Answer>(&mut self, got: R) -> Result<bool, Malformed> {
-        Ok(self.take(R::FORM, true)? == got.value())
+        Ok(self.take(R::FORM, Role::Expected)?.agrees(got.value()))
     }
 
     pub fn read<T: Given>(&mut self) -> Result<T, Malformed> {
@@ -230,7 +249,14 @@ impl Given for u8 {
     }
 }
 
-// What may be answered, as a word of its form.
+// Two words, the first one first.
+impl<A: Given> Given for (A, A) {
+    fn read(words: &mut Words<'_>) -> Result<(A, A), Malformed> {
+        Ok((words.read()?, words.read()?))
+    }
+}
+
+// What may be answered, as a word of its form. An impl for each type: a general one for floats or whole numbers would overlap the others. No `From<R> for Value` beside the form: each function that takes an answer would have to name that bound too.
 pub trait Answer: Copy {
     const FORM: Form;
 

@@ -1,6 +1,7 @@
 -- `test_lines::kind` meets its contract: each answer goes by the tests that led to it. Assumes nothing.
 use Rattle.std.proofs.Common.{sym, ◌∙◌, None}
-use Rattle.test_lines.proofs.Walk.{same_by, kind_by, yes, no}
+use Rattle.std.proofs.lemmas.Bool.{cond-true, cond-false}
+use Rattle.test_lines.proofs.Walk.{same_by, kind_by}
 use Rattle.test_lines.specs.declared.Word.TheVariants.{Name, Bad}
 use Rattle.test_lines.proofs.kind.Goals as goal
 
@@ -13,10 +14,10 @@ returns-in-Some c =
 
 pub returns-in-None : goal.returns-in-None
 returns-in-None c =
-    sym (yes _ (Name c.args.from c.args.to) Bad (sym c.is_name.ensures ∙ c.if-is_name.true))
+    sym (cond-true _ (Name c.args.from c.args.to) Bad (sym c.is_name.ensures ∙ c.if-is_name.true))
     ∙ kind_by _ _ c.args.from c.args.to _ _ None c.is_empty.ensures c.if-is_empty.false c.as_slice.ensures c.eq.ensures c.if-eq.false (sym c.in-None.is ∙ c.number.ensures)
 
 pub returns-in-None-2 : goal.returns-in-None-2
 returns-in-None-2 c =
-    sym (no _ (Name c.args.from c.args.to) Bad (sym c.is_name.ensures ∙ c.if-is_name.false))
+    sym (cond-false _ (Name c.args.from c.args.to) Bad (sym c.is_name.ensures ∙ c.if-is_name.false))
     ∙ kind_by _ _ c.args.from c.args.to _ _ None c.is_empty.ensures c.if-is_empty.false c.as_slice.ensures c.eq.ensures c.if-eq.false (sym c.in-None-2.is ∙ c.number.ensures)
