@@ -5,7 +5,7 @@ use test_lines::{Malformed, Words};
 
 // ---- planar
 
-// The crossfade is 0; the inverse is 1 and its four numbers.
+// The crossfade is 0; the inverse is 1 and its four numbers. The number is the list's, tested as it is read.
 fn law(words: &mut Words<'_>) -> Result<Law, Malformed> {
     if words.up_to(1)? == 0 {
         return Ok(Law::Crossfade);
@@ -40,9 +40,10 @@ fn planar(words: &mut Words<'_>, p: &mut VbapPanner) -> Result<(), Malformed> {
 fn points(words: &mut Words<'_>, p: &mut VbapPanner) -> Result<(), Malformed> {
     let count = words.up_to(40)?;
     p.num_real = count as u8;
-    for i in 0..count {
-        p.pt_out[i] = words.read()?;
-        words.fill(&mut p.pt_dir[3 * i..3 * i + 3])?;
+    let dirs = p.pt_dir.chunks_exact_mut(3);
+    for (slot, dir) in p.pt_out.iter_mut().zip(dirs).take(count) {
+        *slot = words.read()?;
+        words.fill(dir)?;
     }
     Ok(())
 }
@@ -51,8 +52,9 @@ fn points(words: &mut Words<'_>, p: &mut VbapPanner) -> Result<(), Malformed> {
 fn triplets(words: &mut Words<'_>, p: &mut VbapPanner) -> Result<(), Malformed> {
     let count = words.up_to(80)?;
     p.num_tris = count as u8;
-    for t in 0..count {
-        words.fill(&mut p.idx[3 * t..3 * t + 3])?;
+    for (t, points) in p.idx.chunks_exact_mut(3).take(count).enumerate() {
+        words.fill(points)?;
+        // an inverse's entries stand 80 apart, where no slice reaches them
         for e in 0..9 {
             p.inv[e * 80 + t] = words.read()?;
         }
@@ -64,10 +66,13 @@ fn triplets(words: &mut Words<'_>, p: &mut VbapPanner) -> Result<(), Malformed> 
 fn imaginary(words: &mut Words<'_>, p: &mut VbapPanner) -> Result<(), Malformed> {
     let count = words.up_to(14)?;
     p.num_imag = count as u8;
-    for k in 0..count {
+    let lists = p.imag_nbrs.chunks_exact_mut(40);
+    for (count, list) in p.num_nbrs.iter_mut().zip(lists).take(count) {
         let n = words.up_to(40)?;
-        p.num_nbrs[k] = n as u8;
-        words.fill(&mut p.imag_nbrs[40 * k..40 * k + n])?;
+        *count = n as u8;
+        for slot in list.iter_mut().take(n) {
+            *slot = words.read()?;
+        }
     }
     Ok(())
 }
