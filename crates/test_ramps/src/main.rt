@@ -3,10 +3,10 @@
 #![tactic(auto)]
 
 use std::{fmt, io};
+use test_lines::Words;
 use test_lines::lines::{Case, Lines};
-use test_lines::report::{Differences, totals};
+use test_lines::report::{Difference, Differences, totals};
 use test_lines::values::Shown;
-use test_lines::{Malformed, Words};
 
 // The most samples that a line may list. Origin: docs/CASES.md, "Rows and ramps".
 const SAMPLES: usize = 1024;
@@ -17,52 +17,50 @@ enum Function {
     NormalizedLerpGain,
 }
 
-const NAMES: [(&str, Function); 2] = [
+// How many functions there are. Origin: Function.
+const COUNT: usize = 2;
+
+const NAMES: [(&str, Function); COUNT] = [
     ("ramp_add", Function::RampAdd),
     ("normalized_lerp_gain", Function::NormalizedLerpGain),
 ];
 
-// How a line differs: the first place that does, and what was answered there. No Option: it is an error, which `?` makes of a malformed line.
+// The first place that differs, and what was answered there.
 #[derive(Clone, Copy)]
-enum Difference {
-    At(usize, Shown),
-    Malformed,
+struct Other {
+    place: usize,
+    got: Shown,
 }
 
-impl From<Malformed> for Difference {
-    fn from(_: Malformed) -> Difference {
-        Difference::Malformed
-    }
-}
-
-impl fmt::Display for Difference {
+impl fmt::Display for Other {
     fn fmt<W: fmt::Write>(&self, f: &mut fmt::Formatter<W>) -> fmt::Result {
-        match self {
-            Difference::At(place, got) => write!(f, " at {place} got {got}"),
-            Difference::Malformed => f.write_str(" malformed"),
-        }
+        let Other { place, got } = *self;
+        write!(f, "at {place} got {got}")
     }
 }
 
 // ---- a case
 
 // Floats against the words that are left of a line.
-fn compare(words: &mut Words<'_>, got: &[f32]) -> Result<(), Difference> {
+fn compare(words: &mut Words<'_>, got: &[f32]) -> Result<(), Difference<Other>> {
     let mut first = None;
     for (place, x) in got.iter().enumerate() {
         if !words.says(*x)? && first.is_none() {
-            first = Some(Difference::At(place, Shown::of(*x)));
+            first = Some(Other {
+                place,
+                got: Shown::of(*x),
+            });
         }
     }
     words.end()?;
     match first {
-        Some(difference) => Err(difference),
+        Some(other) => Err(Difference::At(other)),
         None => Ok(()),
     }
 }
 
 // A case of `ramp_add`, from its arguments on.
-fn check_ramp(words: &mut Words<'_>) -> Result<(), Difference> {
+fn check_ramp(words: &mut Words<'_>) -> Result<(), Difference<Other>> {
     let mut dst = [0.0f32; SAMPLES];
     let mut src = [0.0f32; SAMPLES];
     let dst = words.list(&mut dst)?;
@@ -74,7 +72,7 @@ fn check_ramp(words: &mut Words<'_>) -> Result<(), Difference> {
 }
 
 // A case of `normalized_lerp_gain`, from its arguments on.
-fn check_mix(words: &mut Words<'_>) -> Result<(), Difference> {
+fn check_mix(words: &mut Words<'_>) -> Result<(), Difference<Other>> {
     let from = words.read()?;
     let to = words.read()?;
     let dot = words.read()?;
@@ -85,24 +83,21 @@ fn check_mix(words: &mut Words<'_>) -> Result<(), Difference> {
 // ---- all cases
 
 // Checks a case, which counts for its function where it names one.
-fn replayed(case: Case<'_>, counts: &mut [u64; 2]) -> Result<(), Difference> {
+fn replayed(case: Case<'_>, counts: &mut [u64; COUNT]) -> Result<(), Difference<Other>> {
     let mut words = case.words()?;
-    let function = words.named(&NAMES)?;
-    let count = &mut counts[function as usize];
-    *count = count.wrapping_add(1);
-    match function {
+    match words.counted(&NAMES, counts)? {
         Function::RampAdd => check_ramp(&mut words),
         Function::NormalizedLerpGain => check_mix(&mut words),
     }
 }
 
 fn main(rt: HostRuntime) -> io::Result<()> {
-    let mut counts = [0u64; 2];
+    let mut counts = [0u64; COUNT];
     let mut differences = Differences::none();
     let mut lines = Lines::of(rt.alloc(), rt.reader())?;
     lines.each(|case| {
         let outcome = replayed(case, &mut counts);
-        differences.tell(&rt, case.number, case.whole(), outcome)
+        differences.tell(&rt, case.number, Some(case.whole()), outcome)
     })?;
     totals(&rt, &NAMES, &counts, differences)
 }
