@@ -4,35 +4,13 @@ use layout_new::NewPanner;
 use layout_planar::{Law, PlanarPair};
 use layout_record::{VbapPanner, no_panner};
 use refusals::{Refusal, number_in};
-use std::fmt;
+use test_lines::Words;
+use test_lines::report::Difference;
 use test_lines::values::{Answer, Value};
-use test_lines::{Malformed, Words};
-
-// How a line differs: the name of the first field that does. No Option: it is an error, which `?` makes of a malformed line.
-#[derive(Clone, Copy)]
-pub enum Difference {
-    At(&'static str),
-    Malformed,
-}
-
-impl From<Malformed> for Difference {
-    fn from(_: Malformed) -> Difference {
-        Difference::Malformed
-    }
-}
-
-impl fmt::Display for Difference {
-    fn fmt<W: fmt::Write>(&self, f: &mut fmt::Formatter<W>) -> fmt::Result {
-        f.write_str(match *self {
-            Difference::At(field) => field,
-            Difference::Malformed => "malformed",
-        })
-    }
-}
 
 // ---- a value
 
-fn holds(is: bool, field: &'static str) -> Result<(), Difference> {
+fn holds(is: bool, field: &'static str) -> Result<(), Difference<&'static str>> {
     if is {
         Ok(())
     } else {
@@ -40,17 +18,17 @@ fn holds(is: bool, field: &'static str) -> Result<(), Difference> {
     }
 }
 
-// A value in a place that is used or not.
+// A value in a place that is used or not. A place that is not used has no word, so the flag decides whether one is read.
 fn place<R: Answer>(
     words: &mut Words<'_>,
     used: bool,
     got: R,
     field: &'static str,
-) -> Result<(), Difference> {
+) -> Result<(), Difference<&'static str>> {
     if used {
         return holds(words.says(got)?, field);
     }
-    holds(got.value() == Value::Bits(0), field)
+    holds(got.value().agrees(Value::Bits(0)), field)
 }
 
 // A count, which its array has to hold.
@@ -60,7 +38,7 @@ fn count(
     got: u8,
     most: u8,
     field: &'static str,
-) -> Result<(), Difference> {
+) -> Result<(), Difference<&'static str>> {
     place(words, used, got, field)?;
     holds(got <= most, field)
 }
@@ -68,7 +46,7 @@ fn count(
 // ---- planar
 
 // The crossfade is 0; the inverse is 1 and its four numbers.
-fn law(words: &mut Words<'_>, used: bool, law: Law) -> Result<(), Difference> {
+fn law(words: &mut Words<'_>, used: bool, law: Law) -> Result<(), Difference<&'static str>> {
     match law {
         Law::Crossfade => place(words, used, 0u8, "pairs.law"),
         Law::Inverse(m0, m1, m2, m3) => {
@@ -81,7 +59,7 @@ fn law(words: &mut Words<'_>, used: bool, law: Law) -> Result<(), Difference> {
     }
 }
 
-fn pair(words: &mut Words<'_>, used: bool, p: &PlanarPair) -> Result<(), Difference> {
+fn pair(words: &mut Words<'_>, used: bool, p: &PlanarPair) -> Result<(), Difference<&'static str>> {
     place(words, used, p.start, "pairs.start")?;
     place(words, used, p.gap, "pairs.gap")?;
     place(words, used, p.a, "pairs.a")?;
@@ -90,7 +68,7 @@ fn pair(words: &mut Words<'_>, used: bool, p: &PlanarPair) -> Result<(), Differe
 }
 
 // What stands in the record before the hull's fields.
-fn planar(words: &mut Words<'_>, p: &VbapPanner) -> Result<(), Difference> {
+fn planar(words: &mut Words<'_>, p: &VbapPanner) -> Result<(), Difference<&'static str>> {
     count(words, true, p.num_outputs, 40, "num_outputs")?;
     place(words, true, p.kind as u8, "kind")?;
     place(words, true, p.mono, "mono")?;
@@ -110,12 +88,13 @@ fn planar(words: &mut Words<'_>, p: &VbapPanner) -> Result<(), Difference> {
 // ---- hull
 
 // The real points: each one's slot and the three numbers of its direction.
-fn points(words: &mut Words<'_>, p: &VbapPanner) -> Result<(), Difference> {
+fn points(words: &mut Words<'_>, p: &VbapPanner) -> Result<(), Difference<&'static str>> {
     count(words, true, p.num_real, 40, "num_real")?;
     let real = usize::from(p.num_real);
-    for i in 0..40 {
-        place(words, i < real, p.pt_out[i], "pt_out")?;
-        for x in &p.pt_dir[3 * i..3 * i + 3] {
+    let points = p.pt_out.iter().zip(p.pt_dir.chunks_exact(3));
+    for (i, (slot, dir)) in points.enumerate() {
+        place(words, i < real, *slot, "pt_out")?;
+        for x in dir {
             place(words, i < real, *x, "pt_dir")?;
         }
     }
@@ -123,13 +102,14 @@ fn points(words: &mut Words<'_>, p: &VbapPanner) -> Result<(), Difference> {
 }
 
 // The triplets: each one's point numbers and inverse.
-fn triplets(words: &mut Words<'_>, p: &VbapPanner) -> Result<(), Difference> {
+fn triplets(words: &mut Words<'_>, p: &VbapPanner) -> Result<(), Difference<&'static str>> {
     count(words, true, p.num_tris, 80, "num_tris")?;
     let tris = usize::from(p.num_tris);
-    for t in 0..80 {
-        for x in &p.idx[3 * t..3 * t + 3] {
+    for (t, points) in p.idx.chunks_exact(3).enumerate() {
+        for x in points {
             place(words, t < tris, *x, "idx")?;
         }
+        // an inverse's entries stand 80 apart, where no slice reaches them
         for e in 0..9 {
             place(words, t < tris, p.inv[e * 80 + t], "inv")?;
         }
@@ -138,14 +118,14 @@ fn triplets(words: &mut Words<'_>, p: &VbapPanner) -> Result<(), Difference> {
 }
 
 // The imaginary points: each one's count of neighbours, and these. An unused one's count is 0.
-fn imaginary(words: &mut Words<'_>, p: &VbapPanner) -> Result<(), Difference> {
+fn imaginary(words: &mut Words<'_>, p: &VbapPanner) -> Result<(), Difference<&'static str>> {
     count(words, true, p.num_imag, 14, "num_imag")?;
     let imag = usize::from(p.num_imag);
-    for k in 0..14 {
-        count(words, k < imag, p.num_nbrs[k], 40, "num_nbrs")?;
-        let nbrs = usize::from(p.num_nbrs[k]);
-        for j in 0..40 {
-            place(words, j < nbrs, p.imag_nbrs[k * 40 + j], "imag_nbrs")?;
+    let lists = p.num_nbrs.iter().zip(p.imag_nbrs.chunks_exact(40));
+    for (k, (nbrs, list)) in lists.enumerate() {
+        count(words, k < imag, *nbrs, 40, "num_nbrs")?;
+        for (j, slot) in list.iter().enumerate() {
+            place(words, j < usize::from(*nbrs), *slot, "imag_nbrs")?;
         }
     }
     Ok(())
@@ -157,7 +137,7 @@ fn imaginary(words: &mut Words<'_>, p: &VbapPanner) -> Result<(), Difference> {
 pub fn check_made(
     words: &mut Words<'_>,
     made: Result<NewPanner, Refusal>,
-) -> Result<(), Difference> {
+) -> Result<(), Difference<&'static str>> {
     place(words, true, number_in(&made), "number")?;
     let made = made.unwrap_or(NewPanner {
         panner: no_panner(),

@@ -4,17 +4,17 @@
 
 mod fields;
 
-use fields::{Difference, check_made};
+use fields::check_made;
 use std::io;
-use test_lines::Malformed;
 use test_lines::lines::{Case, Lines};
-use test_lines::report::{Differences, ended};
+use test_lines::report::{Difference, Differences, ended};
 
 // The function that a line names.
 #[derive(Clone, Copy)]
 struct New;
 
-fn replayed(case: Case<'_>) -> Result<(), Difference> {
+// How a line differs: the name of the first field that does.
+fn replayed(case: Case<'_>) -> Result<(), Difference<&'static str>> {
     let mut words = case.words()?;
     let New = words.named(&[("new", New)])?;
     let mut positions = [0.0f32; 256];
@@ -33,7 +33,7 @@ fn main(rt: HostRuntime) -> io::Result<()> {
     let mut lines = Lines::of(rt.alloc(), rt.reader())?;
     lines.each(|case| {
         cases = cases.wrapping_add(1);
-        differences.tell(&rt, case.number, b"", replayed(case))
+        differences.tell(&rt, case.number, None, replayed(case))
     })?;
     ended(&rt, cases, differences)
 }
