@@ -7,9 +7,8 @@ mod set;
 
 use layout_record::VbapPanner;
 use std::{fmt, io};
-use test_lines::Malformed;
 use test_lines::lines::{Case, Lines};
-use test_lines::report::{Differences, totals};
+use test_lines::report::{Difference, Differences, totals};
 use test_lines::values::Shown;
 
 #[derive(Clone, Copy)]
@@ -20,35 +19,30 @@ enum Name {
     NumOutputs,
 }
 
-const NAMES: [(&str, Name); 4] = [
+// How many names there are. Origin: Name.
+const COUNT: usize = 4;
+
+const NAMES: [(&str, Name); COUNT] = [
     ("layout", Name::Layout),
     ("record", Name::Record),
     ("gains", Name::Gains),
     ("num_outputs", Name::NumOutputs),
 ];
 
-// How a line differs: the number, the count or the first place that does, and what was answered.
+// What was answered where a line says otherwise: the number, the count, or what the first place that differs holds.
 #[derive(Clone, Copy)]
-pub enum Difference {
+pub enum Got {
     Number(u32),
     Count(usize),
     Place(usize, Shown),
-    Malformed,
 }
 
-impl From<Malformed> for Difference {
-    fn from(_: Malformed) -> Difference {
-        Difference::Malformed
-    }
-}
-
-impl fmt::Display for Difference {
+impl fmt::Display for Got {
     fn fmt<W: fmt::Write>(&self, f: &mut fmt::Formatter<W>) -> fmt::Result {
         match self {
-            Difference::Number(got) => write!(f, " got number {got}"),
-            Difference::Count(got) => write!(f, " got count {got}"),
-            Difference::Place(place, got) => write!(f, " at {place} got {got}"),
-            Difference::Malformed => f.write_str(" malformed"),
+            Got::Number(got) => write!(f, "got number {got}"),
+            Got::Count(got) => write!(f, "got count {got}"),
+            Got::Place(place, got) => write!(f, "at {place} got {got}"),
         }
     }
 }
@@ -57,13 +51,10 @@ impl fmt::Display for Difference {
 fn replayed(
     case: Case<'_>,
     panner: &mut VbapPanner,
-    counts: &mut [u64; 4],
-) -> Result<(), Difference> {
+    counts: &mut [u64; COUNT],
+) -> Result<(), Difference<Got>> {
     let mut words = case.words()?;
-    let name = words.named(&NAMES)?;
-    let count = &mut counts[name as usize];
-    *count = count.wrapping_add(1);
-    match name {
+    match words.counted(&NAMES, counts)? {
         Name::Layout => set::layout(&mut words, panner),
         Name::Record => set::record(&mut words, panner),
         Name::Gains => asked::check_gains(&mut words, panner),
@@ -74,12 +65,12 @@ fn replayed(
 fn main(rt: HostRuntime) -> io::Result<()> {
     // Before the first line the layout is the one that stands beside a refusal.
     let mut panner = layout_record::no_panner();
-    let mut counts = [0u64; 4];
+    let mut counts = [0u64; COUNT];
     let mut differences = Differences::none();
     let mut lines = Lines::of(rt.alloc(), rt.reader())?;
     lines.each(|case| {
         let outcome = replayed(case, &mut panner, &mut counts);
-        differences.tell(&rt, case.number, case.whole(), outcome)
+        differences.tell(&rt, case.number, Some(case.whole()), outcome)
     })?;
     totals(&rt, &NAMES, &counts, differences)
 }
