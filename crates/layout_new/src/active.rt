@@ -61,6 +61,7 @@ impl ActiveSpeakers {
     pub fn all_level(&self) -> bool
         ensures { result ≡ every level self.now }
     {
+        // the height is the second of each three, so the number is used too
         for i in 0..self.count {
             let height = float_order::abs(self.dir[i * 3 + 1]);
             if !(height <= PLANAR_MAX_HEIGHT) {

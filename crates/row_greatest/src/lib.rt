@@ -33,6 +33,7 @@ fn greatest(l: &[f32]) -> f32
 fn lanes(l: &[f32]) -> [f32; 8]
     ensures { Lanes l.now (length l.now / 8 * 8) result }
 {
+    // by places: each names a lane and a number, and after `iter_mut().zip(..)` a proof knows nothing of the elements
     let mut lanes = [f32::NEG_INFINITY; 8];
     for i in 0..l.len() / 8 {
         for k in 0..8 {
@@ -52,7 +53,7 @@ fn top(l: &[f32]) -> f32
 
 // ---- its first place
 
-// Whether x is below g or a NaN.
+// Whether x is below g or a NaN: the only value that differs from itself, as the definition says it.
 #[tactic(auto, unfolding(crate::specs::Inner::Steps::passed))]
 fn is_passed(x: f32, g: f32) -> bool
     ensures { result ≡ passed g x }
@@ -60,7 +61,7 @@ fn is_passed(x: f32, g: f32) -> bool
     (x < g) | (x != x)
 }
 
-// Whether the eight numbers from t on are passed. Without an exit, so that they are compared at once.
+// Whether the eight numbers from t on are passed. Without an exit, so that they are compared at once; by places, of which the promise speaks.
 fn eight_passed(l: &[f32], t: usize, g: f32) -> bool
     requires { t + 8 ≤ length l.now }
     ensures { result ≡ true → AllPassed g l.now t (t + 8) }
