@@ -1,8 +1,6 @@
 -- `session_calls::place` meets its contract: a refused session is not given back, and an accepted one is what the call on the lent one left. Assumes nothing.
-use mathlib.Core.Path.{sym, ap, ◌∙◌}
 use Rattle.std.proofs.lemmas.Result.{err_from_is_err_and}
 use Rattle.session_history.specs.Calls.{place}
-use Rattle.session_calls.specs.Answers.{Answer}
 use Rattle.session_calls.proofs.Refusals.{refused}
 use Rattle.session_calls.proofs.Answers.{refused_left}
 use Rattle.session_calls.proofs.place.Goals as goal

@@ -12,7 +12,7 @@ use Rattle.session_calls.specs.Session.{malformed_session, target, new_start}
 use Rattle.session_calls.specs.declared.Session.{Session}
 use Rattle.session_calls.proofs.Refusals.{formed, none_at}
 use Rattle.session_render.proofs.Numbers.{outputs_low}
-use Rattle.session_render.proofs.Rows.{target_at, renewed_none, part_long, row_made, rows_made, below_more, get_d_new}
+use Rattle.session_render.proofs.Rows.{renewed_none, part_long, row_made, rows_made, below_more, get_d_new}
 use native.Mathlib.Nat.{not-suc-le-zero}
 use native.Mathlib.Omega.{arith}
 use Rattle.session_render.proofs.new_starts.Goals as goal
