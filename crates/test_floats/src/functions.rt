@@ -1,6 +1,7 @@
 // The functions that a case may name, and what each takes and answers.
-use crate::Difference;
+use crate::Answered;
 use test_lines::Words;
+use test_lines::report::Difference;
 use test_lines::values::{Answer, Given, Shown};
 
 #[derive(Clone, Copy)]
@@ -69,39 +70,33 @@ pub const NAMES: [(&str, Function); COUNT] = [
 ];
 
 // An answer against the last word of a line.
-fn compare<R: Answer>(words: &mut Words<'_>, got: R) -> Result<(), Difference> {
+fn compare<R: Answer>(words: &mut Words<'_>, got: R) -> Result<(), Difference<Answered>> {
     let is_same = words.says(got)?;
     words.end()?;
     if is_same {
         return Ok(());
     }
-    Err(Difference::Answer(Shown::of(got)))
+    Err(Difference::At(Answered::One(Shown::of(got))))
 }
 
-// A function that calls a closure asks that it may: the clause stands in each of the three below, as no type can keep it.
+// Both functions below call a closure that they are given, and owe for it the clause that it may be called.
 
-// One argument and one answer.
-fn one<A: Given, R: Answer, F: Fn(A) -> R>(words: &mut Words<'_>, f: F) -> Result<(), Difference>
+// One answer.
+fn one<A: Given, R: Answer, F: Fn(A) -> R>(
+    words: &mut Words<'_>,
+    f: F,
+) -> Result<(), Difference<Answered>>
     requires { F.IsAlwaysCallable f }
 {
     let x = words.read()?;
     compare(words, f(x))
 }
 
-// Two arguments and one answer.
-fn two<A: Given, R: Answer, F: Fn(A, A) -> R>(words: &mut Words<'_>, f: F) -> Result<(), Difference>
-    requires { F.IsAlwaysCallable f }
-{
-    let x = words.read()?;
-    let y = words.read()?;
-    compare(words, f(x, y))
-}
-
-// One argument and two answers.
+// Two answers.
 fn both<A: Given + Answer, F: Fn(A) -> (A, A)>(
     words: &mut Words<'_>,
     f: F,
-) -> Result<(), Difference>
+) -> Result<(), Difference<Answered>>
     requires { F.IsAlwaysCallable f }
 {
     let x = words.read()?;
@@ -112,11 +107,11 @@ fn both<A: Given + Answer, F: Fn(A) -> (A, A)>(
     if is_first && is_second {
         return Ok(());
     }
-    Err(Difference::Answers(Shown::of(first), Shown::of(second)))
+    Err(Difference::At(Answered::Two(Shown::of(first), Shown::of(second))))
 }
 
 // A function on the arguments of a line, against the answers that it says.
-pub fn check(function: Function, words: &mut Words<'_>) -> Result<(), Difference> {
+pub fn check(function: Function, words: &mut Words<'_>) -> Result<(), Difference<Answered>> {
     match function {
         Function::Sqrt32 => one(words, |x: f32| float_root::sqrt32(x)),
         Function::Clamp => one(words, |x: f32| float_order::clamp(x)),
@@ -131,9 +126,9 @@ pub fn check(function: Function, words: &mut Words<'_>) -> Result<(), Difference
             let r = float_sine::sin_cos32(x);
             (r.sin, r.cos)
         }),
-        Function::Max32 => two(words, |x: f32, y: f32| float_order::max(x, y)),
-        Function::Min32 => two(words, |x: f32, y: f32| float_order::min32(x, y)),
-        Function::RemEuclid32 => two(words, |x: f32, m: f32| float_order::rem_euclid(x, m)),
+        Function::Max32 => one(words, |(x, y): (f32, f32)| float_order::max(x, y)),
+        Function::Min32 => one(words, |(x, y): (f32, f32)| float_order::min32(x, y)),
+        Function::RemEuclid32 => one(words, |(x, m): (f32, f32)| float_order::rem_euclid(x, m)),
         Function::Sqrt64 => one(words, |x: f64| float_root::sqrt64(x)),
         Function::Abs64 => one(words, |x: f64| float_order::abs(x)),
         Function::Sin64 => one(words, |x: f64| float_sine::sin(x)),
@@ -146,9 +141,9 @@ pub fn check(function: Function, words: &mut Words<'_>) -> Result<(), Difference
             let r = float_sine::sin_cos(x);
             (r.sin, r.cos)
         }),
-        Function::Max64 => two(words, |x: f64, y: f64| float_order::max(x, y)),
-        Function::RemEuclid64 => two(words, |x: f64, m: f64| float_order::rem_euclid(x, m)),
-        Function::Atan2 => two(words, |y: f64, x: f64| float_arctangent::atan2(y, x)),
+        Function::Max64 => one(words, |(x, y): (f64, f64)| float_order::max(x, y)),
+        Function::RemEuclid64 => one(words, |(x, m): (f64, f64)| float_order::rem_euclid(x, m)),
+        Function::Atan2 => one(words, |(y, x): (f64, f64)| float_arctangent::atan2(y, x)),
         Function::F32FromU64 => one(words, |n: u64| float_widths::f32_from_u64(n)),
         Function::F64FromU64 => one(words, |n: u64| float_widths::f64_from_u64(n)),
     }

@@ -6,37 +6,28 @@ mod functions;
 
 use functions::{COUNT, NAMES, check};
 use std::{fmt, io};
-use test_lines::Malformed;
 use test_lines::lines::{Case, Lines};
-use test_lines::report::{Differences, totals};
+use test_lines::report::{Difference, Differences, totals};
 use test_lines::values::Shown;
 
-// How a line differs: what the function answered.
+// What the function answered, where the line says otherwise.
 #[derive(Clone, Copy)]
-enum Difference {
-    Answer(Shown),
-    Answers(Shown, Shown),
-    Malformed,
+enum Answered {
+    One(Shown),
+    Two(Shown, Shown),
 }
 
-impl From<Malformed> for Difference {
-    fn from(_: Malformed) -> Difference {
-        Difference::Malformed
-    }
-}
-
-impl fmt::Display for Difference {
+impl fmt::Display for Answered {
     fn fmt<W: fmt::Write>(&self, f: &mut fmt::Formatter<W>) -> fmt::Result {
         match self {
-            Difference::Answer(got) => write!(f, " got {got}"),
-            Difference::Answers(first, second) => write!(f, " got {first} {second}"),
-            Difference::Malformed => f.write_str(" malformed"),
+            Answered::One(got) => write!(f, "got {got}"),
+            Answered::Two(first, second) => write!(f, "got {first} {second}"),
         }
     }
 }
 
-// Checks a case, which counts for its function where it is not malformed.
-fn replayed(case: Case<'_>, counts: &mut [u64; COUNT]) -> Result<(), Difference> {
+// Checks a case, which counts for its function where it is not malformed, so only after its check.
+fn replayed(case: Case<'_>, counts: &mut [u64; COUNT]) -> Result<(), Difference<Answered>> {
     let mut words = case.words()?;
     let function = words.named(&NAMES)?;
     let outcome = check(function, &mut words);
@@ -54,7 +45,7 @@ pub fn run(rt: &(impl AllocGlobal + Input + Print)) -> io::Result<()> {
     let mut lines = Lines::of(rt.alloc(), rt.reader())?;
     lines.each(|case| {
         let outcome = replayed(case, &mut counts);
-        differences.tell(rt, case.number, case.bytes(), outcome)
+        differences.tell(rt, case.number, Some(case.bytes()), outcome)
     })?;
     totals(rt, &NAMES, &counts, differences)
 }
