@@ -1,4 +1,5 @@
 // Replays the cases of the stand-ins: sine and cosine, each and together, arctangent and atan2.
+// A program for each stored list, so a main for each.
 #![tactic(auto)]
 
 use std::io;
