@@ -129,7 +129,7 @@ pub fn settle_on(s: &mut Session, source: usize) -> Result<(), Refusal>
     Ok(())
 }
 
-// ---- and on a session by value. An `Err` leaves the caller's session as it is.
+// ---- and on a session by value, as document 01 has it: values handed in and back. An `Err` leaves the caller's session as it is. The three are alike but for the call, which is what each is named for.
 
 pub fn place(s: Session, source: usize, az: f32, el: f32) -> Result<Session, Refusal>
     ensures { answered s result ≡ answer_of s (place source az el) }
