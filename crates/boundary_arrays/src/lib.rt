@@ -1,4 +1,5 @@
 // The number work of each number of an array. A function stops at the end of its shortest slice.
+// One function for each export: what they share is `fill_by`.
 #![tactic(auto)]
 
 ghost use Rattle.std.specs.Prelude.{◌≡◌, ℕ, ◌≤◌, ◌<◌, ◌++◌, min, length, map, drop};

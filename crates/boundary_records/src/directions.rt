@@ -7,7 +7,7 @@ use layout_record::VbapPanner;
 use refusals::Refusal;
 use session_calls::Session;
 
-// Row i of the directions into the i-th part of `width` places, as many as there are azimuths, elevations and parts.
+// Row i of the directions into the i-th part of `width` places, as many as there are azimuths, elevations and parts. The caller answers with `num_outputs`, so a refusal is not told here.
 pub fn rows(p: &VbapPanner, az: &[f32], el: &[f32], width: usize, out: &mut [f32])
     ensures { out.new ≡ rows_of p.now az.now el.now width out.old }
 {

@@ -17,7 +17,7 @@ use std::array;
 // Outputs, and no more pairs, slots, real points and neighbours of one: 40. Origin: a place of a row for each output.
 const OUTPUTS: usize = ROW;
 
-// Triplets of a hull. Origin: document 01, refusal 4.
+// Triplets of a hull. Origin: document 01, refusal 4; the constant of crate layout_hull is its own.
 const TRIPLETS: usize = 80;
 
 // Imaginary points of a hull. Origin: document 01, "Returned numbers" (11).
@@ -170,7 +170,7 @@ fn put_bytes(p: &VbapPanner, to: &mut [u8])
     put(&p.imag_nbrs, to, NBRS_AT);
 }
 
-// And its floats.
+// And its floats. Bytes and floats are two arrays, as the C interface lends them.
 fn put_floats(p: &VbapPanner, to: &mut [f32])
     requires { record_float_places ≤ length to.old }
     ensures to_after { to.new ≡ record_floats p.now ++ drop record_float_places to.old }
@@ -231,7 +231,7 @@ fn known(kind: u8, bytes: &[u8; PAIR_BYTES]) -> bool
     true
 }
 
-// The outputs, where kind and laws are known.
+// The outputs, where kind and laws are known. A number and no Option: `taken_in` promises a record for any arrays.
 fn outputs_from(is_known: bool, n: u8) -> u8
     ensures { result ≡ cond is_known n no_record }
 {
