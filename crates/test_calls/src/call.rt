@@ -1,7 +1,7 @@
 // The calls of lists: the words of each, the call itself, and what it answered.
 use crate::ending::check_end;
 use crate::given;
-use crate::report::Difference;
+use crate::report::{COUNT, Got, NUMBERS};
 use layout_record::no_panner;
 use mix_block::{GAINS, SOURCES};
 use refusals::{Refusal, number_in};
@@ -10,16 +10,20 @@ use session_open::Opened;
 use session_standing::PLACES;
 use test_call_words::draws::Draws;
 use test_call_words::sums::Sum;
+use test_lines::report::Difference;
 use test_lines::{Malformed, Words};
 
-// The list at hand.
+// The list at hand, and what all lists come to.
 #[derive(Clone, Copy)]
 pub struct Calls {
+    // not within the Option: a malformed open begins a list too, on the session that stood before
     session: Session,
     // of what the calls of the list answered, where a list has begun
     sum: Option<Sum>,
+    // how many lines there were of each name
+    pub counts: [u64; COUNT],
     // how often each number was answered, in all lists
-    pub numbers: [u64; 12],
+    pub numbers: [u64; NUMBERS],
 }
 
 // The number that a line ends with.
@@ -29,14 +33,14 @@ fn told(words: &mut Words<'_>) -> Result<u64, Malformed> {
     Ok(number)
 }
 
-fn check_number(got: u32, told: u64) -> Result<(), Difference> {
+fn check_number(got: u32, told: u64) -> Result<(), Difference<Got>> {
     if u64::from(got) == told {
         return Ok(());
     }
-    Err(Difference::Number(got))
+    Err(Difference::At(Got::Number(got)))
 }
 
-// What stands beside a refused open: every call on it is refused.
+// The session after a refused open, which gives none: every call on it is refused.
 fn no_session() -> Session {
     Session {
         panner: no_panner(),
@@ -53,7 +57,8 @@ impl Calls {
         Calls {
             session: no_session(),
             sum: None,
-            numbers: [0; 12],
+            counts: [0; COUNT],
+            numbers: [0; NUMBERS],
         }
     }
 
@@ -82,11 +87,12 @@ impl Calls {
     }
 
     // After a call that answers a session, with the number that the line says.
-    fn answered(&mut self, a: Result<Session, Refusal>, told: u64) -> Result<(), Difference> {
+    fn answered(&mut self, a: Result<Session, Refusal>, told: u64) -> Result<(), Difference<Got>> {
         let mut sum = self.listed()?;
         let number = number_in(&a);
         self.count(&mut sum, number);
         self.sum = Some(sum);
+        // An Err holds no session, so a refused call can change none.
         if let Ok(session) = a {
             self.session = session;
         }
@@ -95,7 +101,7 @@ impl Calls {
 
     // ---- the session is set
 
-    pub fn open(&mut self, words: &mut Words<'_>) -> Result<(), Difference> {
+    pub fn open(&mut self, words: &mut Words<'_>) -> Result<(), Difference<Got>> {
         let mut sum = self.begun();
         let mut positions = [0.0f32; 255];
         let mut lfe = [0usize; 64];
@@ -106,6 +112,7 @@ impl Calls {
         let imaginary = told(words)?;
         let answer = session_open::open(positions, lfe, sources);
         let got = number_in(&answer);
+        // An Err holds no session and no count of imaginary points: the list has 0 for the count, and the calls that follow are made on `no_session`.
         let opened = answer.unwrap_or(Opened {
             imaginary: 0,
             session: no_session(),
@@ -116,13 +123,13 @@ impl Calls {
         self.session = opened.session;
         check_number(got, number)?;
         if opened.imaginary as u64 != imaginary {
-            return Err(Difference::Imaginary(opened.imaginary));
+            return Err(Difference::At(Got::Imaginary(opened.imaginary)));
         }
         Ok(())
     }
 
     // A session made by hand is taken as it stands: there is no call.
-    pub fn give(&mut self, words: &mut Words<'_>) -> Result<(), Difference> {
+    pub fn give(&mut self, words: &mut Words<'_>) -> Result<(), Difference<Got>> {
         let _ = self.begun();
         let session = given::session(words)?;
         words.end()?;
@@ -132,7 +139,7 @@ impl Calls {
 
     // ---- calls on it
 
-    pub fn place(&mut self, words: &mut Words<'_>) -> Result<(), Difference> {
+    pub fn place(&mut self, words: &mut Words<'_>) -> Result<(), Difference<Got>> {
         let source = words.read()?;
         let az = words.read()?;
         let el = words.read()?;
@@ -141,27 +148,28 @@ impl Calls {
         self.answered(session_calls::place(self.session, source, az, el), told)
     }
 
-    pub fn take_back(&mut self, words: &mut Words<'_>) -> Result<(), Difference> {
+    // A call on a source that has no direction.
+    pub fn on_source<F: Fn(Session, usize) -> Result<Session, Refusal>>(
+        &mut self,
+        words: &mut Words<'_>,
+        call: F,
+    ) -> Result<(), Difference<Got>>
+        requires { F.IsAlwaysCallable call }
+    {
         let source = words.read()?;
         let told = told(words)?;
         let _ = self.listed()?;
-        self.answered(session_calls::take_back(self.session, source), told)
+        self.answered(call(self.session, source), told)
     }
 
-    pub fn settle(&mut self, words: &mut Words<'_>) -> Result<(), Difference> {
-        let source = words.read()?;
-        let told = told(words)?;
-        let _ = self.listed()?;
-        self.answered(session_calls::settle(self.session, source), told)
-    }
-
+    // No struct of the two buffers: the borrow checker does not cover two fields that are lent behind one reference.
     // With draws in two lent buffers, all that the line asks for. Every float of the output buffer counts in the sum.
     pub fn render(
         &mut self,
         words: &mut Words<'_>,
         samples: &mut [f32],
         outputs: &mut [f32],
-    ) -> Result<(), Difference> {
+    ) -> Result<(), Difference<Got>> {
         let block = words.read()?;
         let n = words.up_to(samples.len())?;
         let m = words.up_to(outputs.len())?;
@@ -182,7 +190,7 @@ impl Calls {
     }
 
     // The end of a list.
-    pub fn end(&mut self, words: &mut Words<'_>) -> Result<(), Difference> {
+    pub fn end(&mut self, words: &mut Words<'_>) -> Result<(), Difference<Got>> {
         let sum = self.listed()?;
         self.sum = None;
         check_end(words, &self.session, sum)

@@ -3,7 +3,7 @@ use layout_record::VbapPanner;
 use mix_block::GAINS;
 use session_calls::Session;
 use session_standing::PLACES;
-use test_lines::values::{Pattern, Value};
+use test_lines::values::{Pattern, Role, Value};
 use test_lines::{Malformed, Words};
 use test_record_words::places::places;
 use test_record_words::record::record;
@@ -22,7 +22,7 @@ fn recounted(words: &mut Words<'_>) -> Result<VbapPanner, Malformed> {
 
 // Floats by their places, NaNs as patterns.
 fn floats(words: &mut Words<'_>, listed: &mut [Value], to: &mut [f32]) -> Result<(), Malformed> {
-    places(words, listed, false)?;
+    places(words, listed, Role::Argument)?;
     for (x, value) in to.iter_mut().zip(listed) {
         if let Value::Bits(bits) = *value {
             *x = f32::of_bits(bits);

@@ -8,12 +8,12 @@ mod given;
 mod report;
 
 use call::Calls;
-use report::{Difference, NAMES, Name, totals};
+use report::{Got, NAMES, Name, totals};
+use session_calls::Session;
 use std::io::Read;
 use std::{fs, io};
-use test_lines::Malformed;
 use test_lines::lines::{Case, Lines};
-use test_lines::report::Differences;
+use test_lines::report::{Difference, Differences};
 
 // The samples of eight sources, and those of forty outputs. Origin: document 01, refusals 3, 2 and 8; one more than a block may have.
 const SAMPLES: usize = 8200;
@@ -24,20 +24,20 @@ const OUTPUTS: usize = 41000;
 fn replayed(
     case: Case<'_>,
     calls: &mut Calls,
-    counts: &mut [u64; 7],
     samples: &mut [f32; SAMPLES],
     outputs: &mut [f32; OUTPUTS],
-) -> Result<(), Difference> {
+) -> Result<(), Difference<Got>> {
     let mut words = case.words()?;
-    let name = words.named(&NAMES)?;
-    let count = &mut counts[name as usize];
-    *count = count.wrapping_add(1);
-    match name {
+    match words.counted(&NAMES, &mut calls.counts)? {
         Name::Open => calls.open(&mut words),
         Name::Session => calls.give(&mut words),
         Name::Place => calls.place(&mut words),
-        Name::TakeBack => calls.take_back(&mut words),
-        Name::Settle => calls.settle(&mut words),
+        Name::TakeBack => calls.on_source(&mut words, |s: Session, source: usize| {
+            session_calls::take_back(s, source)
+        }),
+        Name::Settle => calls.on_source(&mut words, |s: Session, source: usize| {
+            session_calls::settle(s, source)
+        }),
         Name::Render => calls.render(&mut words, samples, outputs),
         Name::End => calls.end(&mut words),
     }
@@ -45,21 +45,20 @@ fn replayed(
 
 // The lists of a reader, and what they come to. A list that has no end counts as one that differs.
 fn replay(rt: &(impl AllocGlobal + Print), input: &mut impl Read) -> io::Result<()> {
-    let mut counts = [0u64; 7];
     let mut differences = Differences::none();
     let mut calls = Calls::none();
     let mut samples = [0.0f32; SAMPLES];
     let mut outputs = [0.0f32; OUTPUTS];
     let mut lines = Lines::of(rt.alloc(), input)?;
     lines.each(|case| {
-        let outcome = replayed(case, &mut calls, &mut counts, &mut samples, &mut outputs);
-        differences.tell(rt, case.number, case.whole(), outcome)
+        let outcome = replayed(case, &mut calls, &mut samples, &mut outputs);
+        differences.tell(rt, case.number, Some(case.whole()), outcome)
     })?;
     if calls.is_begun() {
-        let outcome: Result<(), Difference> = Err(Difference::Malformed);
-        differences.tell(rt, lines.number, b"", outcome)?;
+        let outcome: Result<(), Difference<Got>> = Err(Difference::Malformed);
+        differences.tell(rt, lines.number, Some(b""), outcome)?;
     }
-    totals(rt, &counts, &calls.numbers, differences)
+    totals(rt, &calls.counts, &calls.numbers, differences)
 }
 
 // The lists of standard input, none of which may differ; then those of the file `faults`, wrong expectations and malformed lines, which all have to be found.

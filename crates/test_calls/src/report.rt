@@ -1,7 +1,7 @@
 // The names of lines, how a line differs, and what the lists of a replay come to.
+use refusals::Refusal;
 use std::{fmt, io};
 use test_call_words::sums::Sum;
-use test_lines::Malformed;
 use test_lines::report::{Differences, count_row};
 use test_lines::values::Shown;
 
@@ -16,7 +16,13 @@ pub enum Name {
     End,
 }
 
-pub const NAMES: [(&str, Name); 7] = [
+// How many names there are. Origin: Name.
+pub const COUNT: usize = 7;
+
+// How many numbers a call may answer: 0, and those of the refusals, of which Malformed is the last.
+pub const NUMBERS: usize = Refusal::Malformed as usize + 1;
+
+pub const NAMES: [(&str, Name); COUNT] = [
     ("open", Name::Open),
     ("session", Name::Session),
     ("place", Name::Place),
@@ -26,9 +32,9 @@ pub const NAMES: [(&str, Name); 7] = [
     ("end", Name::End),
 ];
 
-// Where a line differs first, what was answered, and at which place.
+// What was answered where a line says otherwise, and at which place.
 #[derive(Clone, Copy)]
-pub enum Difference {
+pub enum Got {
     Number(u32),
     Imaginary(usize),
     Answers(Sum),
@@ -37,27 +43,19 @@ pub enum Difference {
     Count(usize, u8),
     Standing(usize, Shown),
     Start(usize, Shown),
-    Malformed,
 }
 
-impl From<Malformed> for Difference {
-    fn from(_: Malformed) -> Difference {
-        Difference::Malformed
-    }
-}
-
-impl fmt::Display for Difference {
+impl fmt::Display for Got {
     fn fmt<W: fmt::Write>(&self, f: &mut fmt::Formatter<W>) -> fmt::Result {
         match self {
-            Difference::Number(got) => write!(f, " got number {got}"),
-            Difference::Imaginary(got) => write!(f, " got imaginary {got}"),
-            Difference::Answers(got) => write!(f, " got sum of answers {got}"),
-            Difference::Record(got) => write!(f, " got sum of record {got}"),
-            Difference::Sources(got) => write!(f, " got sources {got}"),
-            Difference::Count(place, got) => write!(f, " count {place} got {got}"),
-            Difference::Standing(place, got) => write!(f, " standing {place} got {got}"),
-            Difference::Start(place, got) => write!(f, " start {place} got {got}"),
-            Difference::Malformed => f.write_str(" malformed"),
+            Got::Number(got) => write!(f, "got number {got}"),
+            Got::Imaginary(got) => write!(f, "got imaginary {got}"),
+            Got::Answers(got) => write!(f, "got sum of answers {got}"),
+            Got::Record(got) => write!(f, "got sum of record {got}"),
+            Got::Sources(got) => write!(f, "got sources {got}"),
+            Got::Count(place, got) => write!(f, "count {place} got {got}"),
+            Got::Standing(place, got) => write!(f, "standing {place} got {got}"),
+            Got::Start(place, got) => write!(f, "start {place} got {got}"),
         }
     }
 }
@@ -65,19 +63,19 @@ impl fmt::Display for Difference {
 // How many lines there were of each name, how often each number was answered, and how many calls, lists and lines that differ there were.
 pub fn totals(
     out: &impl Print,
-    counts: &[u64; 7],
-    numbers: &[u64; 12],
+    counts: &[u64; COUNT],
+    numbers: &[u64; NUMBERS],
     differences: Differences,
 ) -> io::Result<()> {
     let mut calls: u64 = 0;
-    for (text, name) in NAMES {
-        let count = counts[name as usize];
+    let mut lists: u64 = 0;
+    for ((text, name), count) in NAMES.iter().zip(counts) {
         match name {
-            Name::End => {}
-            Name::Session => count_row(out, text, count)?,
+            Name::End => lists = *count,
+            Name::Session => count_row(out, text, *count)?,
             _ => {
-                count_row(out, text, count)?;
-                calls = calls.wrapping_add(count);
+                count_row(out, text, *count)?;
+                calls = calls.wrapping_add(*count);
             }
         }
     }
@@ -85,6 +83,6 @@ pub fn totals(
         println!(out; "number {number}: {count}")?;
     }
     count_row(out, "calls", calls)?;
-    count_row(out, "lists", counts[Name::End as usize])?;
+    count_row(out, "lists", lists)?;
     count_row(out, "differences", differences.count)
 }
