@@ -1,4 +1,6 @@
 // Angles: degrees for the reader, radians for the panner.
+use crate::decimals::Decimal;
+use std::fmt;
 
 // Origin: the 64-bit float nearest pi, document 01, "Number work".
 const PI64: f64 = 3.141592653589793;
@@ -6,8 +8,40 @@ const PI64: f64 = 3.141592653589793;
 // Origin: degrees in half a turn, which is pi radians.
 const HALF_TURN: f64 = 180.0;
 
-// The radians that a call is given.
-pub fn radians(degrees: f32) -> f32 {
+// A direction in degrees.
+#[derive(Clone, Copy)]
+pub struct Direction {
+    pub azimuth: f32,
+    pub elevation: f32,
+}
+
+impl Direction {
+    pub fn of(azimuth: f32, elevation: f32) -> Direction {
+        Direction { azimuth, elevation }
+    }
+
+    // The azimuth and the elevation in radians, as a call takes them.
+    pub fn radians(self) -> (f32, f32) {
+        (radians(self.azimuth), radians(self.elevation))
+    }
+}
+
+// In degrees and in radians: four columns of a table.
+impl fmt::Display for Direction {
+    fn fmt<W: fmt::Write>(&self, f: &mut fmt::Formatter<W>) -> fmt::Result {
+        let (az, el) = self.radians();
+        write!(
+            f,
+            "{:9.2}{:11.2}{:14.6}{:11.6}",
+            Decimal(self.azimuth),
+            Decimal(self.elevation),
+            Decimal(az),
+            Decimal(el)
+        )
+    }
+}
+
+fn radians(degrees: f32) -> f32 {
     float_widths::narrow(float_widths::widen(degrees) * PI64 / HALF_TURN)
 }
 

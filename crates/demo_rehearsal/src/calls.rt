@@ -1,5 +1,5 @@
 // Calls on a session: what each one answers, and what the session holds then.
-use crate::angles::radians;
+use crate::angles::Direction;
 use crate::decimals::Decimal;
 use crate::rows::gains_of;
 use crate::words::answer;
@@ -27,19 +27,11 @@ pub fn place(
     rt: &impl Print,
     s: Session,
     source: usize,
-    azimuth: f32,
-    elevation: f32,
+    direction: Direction,
 ) -> io::Result<Session> {
-    let az = radians(azimuth);
-    let el = radians(elevation);
+    let (az, el) = direction.radians();
     let placed = session_calls::place(s, source, az, el);
-    print!(rt;
-        "place                             {source:7}{:9.2}{:11.2}{:14.6}{:11.6}   ",
-        Decimal(azimuth),
-        Decimal(elevation),
-        Decimal(az),
-        Decimal(el)
-    )?;
+    print!(rt; "place                             {source:7}{direction}   ")?;
     answer(rt, &placed)?;
     Ok(placed.unwrap_or(s))
 }
@@ -109,6 +101,7 @@ pub fn holds(rt: &impl Print, s: &Session) -> io::Result<()> {
     {
         println!(rt; "source {i}: standing directions{count:3}")?;
         for direction in standing.chunks_exact(2).take(usize::from(*count)) {
+            // std has no `as_chunks` of a lent slice
             if let [az, el] = direction {
                 println!(rt; "    direction {:11.6}{:11.6}", Decimal(*az), Decimal(*el))?;
             }

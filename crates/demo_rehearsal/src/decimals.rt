@@ -16,7 +16,8 @@ pub struct Decimal(pub f32);
 impl fmt::Display for Decimal {
     fn fmt<W: fmt::Write>(&self, f: &mut fmt::Formatter<W>) -> fmt::Result {
         let x = self.0;
-        let places = f.precision().unwrap_or(MOST_PLACES).min(MOST_PLACES);
+        // at least 1, so that no text ends in a point or shows a digit that was not asked
+        let places = f.precision().unwrap_or(MOST_PLACES).max(1).min(MOST_PLACES);
         match demo_decimal::decimal(x, places as u32) {
             Size::Steps(n) => {
                 let one = 10u64.pow(places as u32);

@@ -49,12 +49,7 @@ pub fn open(sources: usize) -> Result<Opened, Refusal> {
     session_open::open(SPEAKERS.as_flattened(), &LFE, sources)
 }
 
-// 74 numbers: not a multiple of 3.
-pub fn open_74() -> Result<Opened, Refusal> {
-    session_open::open(&[0.0; 74], &LFE, 2)
-}
-
-// 41 positions.
-pub fn open_41() -> Result<Opened, Refusal> {
-    session_open::open(&[0.0; 123], &LFE, 2)
+// At so many position numbers, each of them 0.
+pub fn open_zeros<const N: usize>() -> Result<Opened, Refusal> {
+    session_open::open(&[0.0; N], &LFE, 2)
 }

@@ -18,6 +18,7 @@ fn speakers(rt: &impl Print, p: &VbapPanner) -> io::Result<()> {
     println!(rt; "point  slot  azimuth  elevation")?;
     let points = p.pt_out.iter().zip(p.pt_dir.chunks_exact(3));
     for (i, (slot, dir)) in points.take(usize::from(p.num_real)).enumerate() {
+        // std has no `as_chunks` of a lent slice
         if let [x, y, z] = dir {
             let az = Decimal(azimuth(*x, *z));
             let el = Decimal(elevation(*x, *y, *z));
@@ -32,6 +33,7 @@ fn triplets(rt: &impl Print, p: &VbapPanner) -> io::Result<()> {
     println!(rt; "Triplets, as point numbers; points from {real} on are imaginary:")?;
     let n = usize::from(p.num_tris);
     for (t, points) in p.idx.chunks_exact(3).take(n).enumerate() {
+        // as in `speakers`
         if let [a, b, c] = points {
             print!(rt; "{a:4}{b:3}{c:3}")?;
         }

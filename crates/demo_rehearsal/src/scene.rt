@@ -1,4 +1,5 @@
 // A short rehearsal of two sources, and the calls that are refused.
+use crate::angles::Direction;
 use crate::calls::{HEARD, holds, place, render, settle, take_back, told};
 use crate::dome;
 use session_calls::Session;
@@ -15,16 +16,16 @@ fn heading(rt: &impl Print) -> io::Result<()> {
 
 // Two sources fade in, in front and on the left.
 fn first_block(rt: &impl Print, fresh: Session) -> io::Result<Session> {
-    let one = place(rt, fresh, 0, 0.0, 0.0)?;
-    let both = place(rt, one, 1, -90.0, 0.0)?;
+    let one = place(rt, fresh, 0, Direction::of(0.0, 0.0))?;
+    let both = place(rt, one, 1, Direction::of(-90.0, 0.0))?;
     render(rt, both)
 }
 
 // The first source tries the zenith, goes back, and moves to the right.
 fn second_block(rt: &impl Print, s: Session) -> io::Result<Session> {
-    let tried = place(rt, s, 0, 0.0, 90.0)?;
+    let tried = place(rt, s, 0, Direction::of(0.0, 90.0))?;
     let back = take_back(rt, tried, 0)?;
-    let moved = place(rt, back, 0, 90.0, 0.0)?;
+    let moved = place(rt, back, 0, Direction::of(90.0, 0.0))?;
     let settled = settle(rt, moved, 0)?;
     render(rt, settled)
 }
@@ -32,8 +33,10 @@ fn second_block(rt: &impl Print, s: Session) -> io::Result<Session> {
 // ---- refused
 
 fn refused_open(rt: &impl Print) -> io::Result<()> {
-    told(rt, "open, 74 position numbers", &dome::open_74())?;
-    told(rt, "open, 41 positions", &dome::open_41())?;
+    // not a multiple of 3
+    told(rt, "open, 74 position numbers", &dome::open_zeros::<74>())?;
+    // three numbers a position
+    told(rt, "open, 41 positions", &dome::open_zeros::<123>())?;
     told(rt, "open, no source", &dome::open(0))?;
     told(rt, "open, 9 sources", &dome::open(9))
 }
@@ -71,7 +74,7 @@ fn refused_full(rt: &impl Print, fresh: Session) -> io::Result<()> {
         s = session_calls::place(s, 0, 0.0, 0.0).unwrap_or(s);
     }
     println!(rt; "(on a session whose source 0 has 16 standing directions)")?;
-    place(rt, s, 0, 0.0, 0.0)?;
+    place(rt, s, 0, Direction::of(0.0, 0.0))?;
     Ok(())
 }
 
@@ -86,7 +89,7 @@ fn refused_malformed(rt: &impl Print, s: Session) -> io::Result<()> {
 
 fn refused(rt: &impl Print, fresh: Session, s: Session) -> io::Result<()> {
     refused_open(rt)?;
-    place(rt, s, 2, 0.0, 0.0)?;
+    place(rt, s, 2, Direction::of(0.0, 0.0))?;
     refused_render(rt, s)?;
     println!(rt; "(on a fresh session)")?;
     take_back(rt, fresh, 0)?;
