@@ -49,7 +49,10 @@ pub fn open(sources: usize) -> Result<Opened, Refusal> {
     session_open::open(SPEAKERS.as_flattened(), &LFE, sources)
 }
 
-// At so many position numbers, each of them 0.
-pub fn open_zeros<const N: usize>() -> Result<Opened, Refusal> {
-    session_open::open(&[0.0; N], &LFE, 2)
+// Position numbers of 41 speakers.
+const ZEROS: [f32; 123] = [0.0; 123];
+
+// At the first n of these, each of them 0. Not by a const parameter: an array of N numbers owes that it fits into memory.
+pub fn open_zeros(n: usize) -> Result<Opened, Refusal> {
+    session_open::open(&ZEROS[..n.min(ZEROS.len())], &LFE, 2)
 }

@@ -34,9 +34,9 @@ fn second_block(rt: &impl Print, s: Session) -> io::Result<Session> {
 
 fn refused_open(rt: &impl Print) -> io::Result<()> {
     // not a multiple of 3
-    told(rt, "open, 74 position numbers", &dome::open_zeros::<74>())?;
+    told(rt, "open, 74 position numbers", &dome::open_zeros(74))?;
     // three numbers a position
-    told(rt, "open, 41 positions", &dome::open_zeros::<123>())?;
+    told(rt, "open, 41 positions", &dome::open_zeros(123))?;
     told(rt, "open, no source", &dome::open(0))?;
     told(rt, "open, 9 sources", &dome::open(9))
 }
