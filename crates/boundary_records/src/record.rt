@@ -13,15 +13,10 @@ use layout_planar::{Law, PlanarPair};
 use layout_record::{Kind, VbapPanner};
 use mix_block::ROW;
 use std::array;
+use vector::{MAX_IMAGINARY, MOST_TRIPLETS};
 
 // Outputs, and no more pairs, slots, real points and neighbours of one: 40. Origin: a place of a row for each output.
 const OUTPUTS: usize = ROW;
-
-// Triplets of a hull. Origin: document 01, refusal 4; the constant of crate layout_hull is its own.
-const TRIPLETS: usize = 80;
-
-// Imaginary points of a hull. Origin: document 01, "Returned numbers" (11).
-const IMAGINARY: usize = 14;
 
 // ---- bytes: how many of each part, and where it begins
 
@@ -38,14 +33,14 @@ const OUT_AT: usize = SLOTS_AT + OUTPUTS;
 const IDX_AT: usize = OUT_AT + OUTPUTS;
 
 // Three point numbers of each triplet.
-const IDX: usize = TRIPLETS * 3;
+const IDX: usize = MOST_TRIPLETS * 3;
 
 const NUM_NBRS_AT: usize = IDX_AT + IDX;
 
-const NBRS_AT: usize = NUM_NBRS_AT + IMAGINARY;
+const NBRS_AT: usize = NUM_NBRS_AT + MAX_IMAGINARY;
 
 // A list of neighbours for each imaginary point.
-const NBRS: usize = IMAGINARY * OUTPUTS;
+const NBRS: usize = MAX_IMAGINARY * OUTPUTS;
 
 // A record's bytes, 1,022.
 pub const BYTES: usize = NBRS_AT + NBRS;
@@ -61,7 +56,7 @@ const DIR: usize = OUTPUTS * 3;
 const INV_AT: usize = PAIR_FLOATS + DIR;
 
 // The nine entries of each triplet's inverse, entry after entry.
-const INV: usize = 9 * TRIPLETS;
+const INV: usize = 9 * MOST_TRIPLETS;
 
 // A record's floats, 1,080.
 pub const FLOATS: usize = INV_AT + INV;

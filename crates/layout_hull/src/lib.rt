@@ -10,12 +10,10 @@ ghost use Rattle.layout_hull.specs.Inner.Steps.{row_of, inverses_with};
 ghost use Rattle.layout_hull.specs.Inner.Flat.{hull_of};
 
 use layout_faces::{Face, Triple};
+use vector::MOST_TRIPLETS;
 
 // Origin: vbap.rs line 345; guards the division by a triplet's determinant.
 const LEAST_DETERMINANT: f64 = 1e-9;
-
-// How many triplets a hull may have. Origin: document 01, refusal 4.
-const MOST_TRIPLETS: usize = 80;
 
 // The triplets of a hull laid flat (the source's `tris`), whether there were more than 80, and whether they tile the sphere (the source's `tiled`). Triplets stand there whatever the two flags say, so neither makes an Option of the rest. `over` is a flag and no Result: `hull_triplets` and `layout_closing::close` promise a hull for all points, and cannot fail.
 #[derive(Clone, Copy)]

@@ -10,7 +10,7 @@ ghost use Rattle.layout_record.specs.Malformed.{any_from, planar_out, hull_out, 
 
 use layout_planar::PlanarPair;
 use refusals::Refusal;
-use vector::MAX_IMAGINARY;
+use vector::{MAX_IMAGINARY, MOST_TRIPLETS};
 
 // Which of the four layouts stands; the fields beside it hold the rest. Document 01 names the form, "a plain kind beside arrays".
 #[derive(Clone, Copy)]
@@ -168,7 +168,7 @@ pub fn hull_over(p: &VbapPanner) -> bool
 
 // ---- malformed
 
-// Whether a count is over its array. Origin of the bounds: document 01, "Returned numbers"; 41 is one more than 40 neighbours. 80 is layout_hull's number for triplets, which that crate keeps to itself.
+// Whether a count is over its array. Origin of the bounds: document 01, "Returned numbers"; 41 is one more than 40 neighbours.
 pub fn counts_over(p: &VbapPanner) -> bool
     ensures { result ≡ counts_over p.now }
 {
@@ -176,7 +176,7 @@ pub fn counts_over(p: &VbapPanner) -> bool
         | (40 < p.num_real)
         | (40 < p.num_pairs)
         | (40 < p.num_slots)
-        | (80 < p.num_tris)
+        | (MOST_TRIPLETS < p.num_tris as usize)
         | (MAX_IMAGINARY < p.num_imag as usize)
         | over(&p.num_nbrs, 41)
 }

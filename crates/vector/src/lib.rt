@@ -11,6 +11,9 @@ const SHORTEST: f64 = 1e-6;
 // How many imaginary points there are at most, poles counted. Origin: vbap.rs line 60 and document 01.
 pub const MAX_IMAGINARY: usize = 14;
 
+// How many triplets a hull may have. Origin: document 01, refusal 4.
+pub const MOST_TRIPLETS: usize = 80;
+
 // The position as a direction, where its length is finite and above 1e-6.
 pub fn unit(p: [f32; 3]) -> Option<[f64; 3]>
     ensures { result ≡ unit_of p }
