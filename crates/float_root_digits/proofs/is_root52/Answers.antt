@@ -1,32 +1,11 @@
 -- `float_root_digits::is_root52` meets its contract: differences that come out small have not wrapped, and add up to that of n * 2 ^ 52 and the square. Assumes nothing.
-use Rattle.std.proofs.Common.{◌+◌, ◌*◌, ◌/◌, ◌%◌, ◌^◌, ◌<◌, T, sym, subst, arith, ltb-true}
+use Rattle.std.proofs.Common.{◌+◌, ◌*◌, ◌/◌, ◌%◌, ◌^◌, ◌<◌, arith, ltb-true}
 use Rattle.float_root_digits.proofs.Digits.{Halves, halves, unwrapped, stepped}
 use Rattle.float_root_digits.proofs.is_root52.Goals as goal
 use Rattle.float_root_digits.proofs.is_root52.Goals.{Start}
 
 parts : (c : Start) → Halves c.args.q (c.args.q / 2 ^ 26) (c.args.q % 2 ^ 26)
 parts c = halves c.args.q c.requires.1
-
-pub overflow_mul-a : goal.overflow_mul-a
-overflow_mul-a c = let h = (parts c).upper in omega arith
-
-pub returns-then-upper-ge536870912 : goal.returns-then-upper-ge536870912
-returns-then-upper-ge536870912 c h = absurd (subst T (sym h) tt)
-
-pub overflow_mul-a-2 : goal.overflow_mul-a-2
-overflow_mul-a-2 c = let h = (parts (goal.at.overflow_mul-a-2 c).Start).mixed in omega arith
-
-pub overflow_mul-a-3 : goal.overflow_mul-a-3
-overflow_mul-a-3 c = let h = (parts (goal.at.overflow_mul-a-3 c).Start).mixed in omega arith
-
-pub returns-then-mixed-ge2147483648 : goal.returns-then-mixed-ge2147483648
-returns-then-mixed-ge2147483648 c h = absurd (subst T (sym h) tt)
-
-pub overflow_mul-b : goal.overflow_mul-b
-overflow_mul-b c = let h = (parts (goal.at.overflow_mul-b c).Start).lower in omega arith
-
-pub overflow_add-b : goal.overflow_add-b
-overflow_add-b c = let h = (parts (goal.at.overflow_add-b c).Start).lower in omega arith
 
 pub returns : goal.returns
 returns c h =

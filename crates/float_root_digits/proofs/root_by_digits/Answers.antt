@@ -1,5 +1,5 @@
-use Rattle.std.proofs.Common.{◌≡◌, ℕ, suc, ◌+◌, ◌-◌, ◌*◌, ◌/◌, ◌%◌, ◌^◌, ◌<◌, ◌≤◌, sym, ap, ◌∙◌, subst, subst₂, lt_of_lt_of_le, le_of_suc-le-suc, mul_assoc, mul_comm, pow-suc, zero-add, mul-one, add-one, arith, pow_mono}
-use Rattle.float_root_digits.proofs.Squares.{sq_suc, sq_twice, sq_lt}
+use Rattle.std.proofs.Common.{◌≡◌, ℕ, suc, ◌+◌, ◌-◌, ◌*◌, ◌/◌, ◌%◌, ◌^◌, ◌<◌, ◌≤◌, sym, ap, ◌∙◌, subst₂, lt_of_lt_of_le, le_of_suc-le-suc, mul_assoc, mul_comm, pow-suc, add-one, arith, pow_mono}
+use Rattle.float_root_digits.proofs.Squares.{sq_suc, sq_twice}
 use Rattle.float_root_digits.proofs.root_by_digits.Goals as goal
 use Rattle.float_root_digits.proofs.root_by_digits.Goals.{then-root-rem, else-root-rem}
 use Rattle.float_root_digits.proofs.root_by_digits.Invariants.{Inv}
@@ -51,25 +51,11 @@ module _ (m left root rem i : ℕ) (v : Inv m left root rem i) (h : i < 55) wher
         digits = more m left (root * root) rem i (root * 2 * (root * 2) + (rem * 4 + left / 2 ^ 62)) v.digits (omega arith);
       }
 
--- after 55 turns every digit is taken
-done : (s m left : ℕ) → left < 2 ^ 64 → s * 2 ^ 64 + left ≡ m * 4 ^ 55 → m * 2 ^ 46 ≡ s
-done s m left w e = omega arith
-
-large : (m root rem : ℕ) → 2 ^ 62 ≤ m → m * 2 ^ 46 ≡ root * root + rem → rem ≤ 2 * root → 2 ^ 54 ≤ root
-large m root rem a e r = let k = sq_suc root in le_of_suc-le-suc (sq_lt (2 ^ 54) (suc root) (omega arith))
-
-pub loop-i-init : goal.loop-i-init
-loop-i-init c =
-    record { short = omega arith; rest = omega arith; word = omega arith; digits = zero-add c.args.m ∙ sym (mul-one c.args.m) }
-
 pub overflow_mul-rem : goal.overflow_mul-rem
 overflow_mul-rem c = let k = low _ _ _ _ _ c.loop-i.invariant c.loop-i-test.true in omega arith
 
 pub overflow_add-rem : goal.overflow_add-rem
 overflow_add-rem c = let k = low _ _ _ _ _ c.loop-i.invariant c.loop-i-test.true in omega arith
-
-pub overflow_mul-root : goal.overflow_mul-root
-overflow_mul-root c = let k = low _ _ _ _ _ c.loop-i.invariant c.loop-i-test.true in omega arith
 
 pub overflow_mul-root-in-loop-i : goal.overflow_mul-root-in-loop-i
 overflow_mul-root-in-loop-i c = let k = low _ _ _ _ _ c.loop-i.invariant c.loop-i-test.true in omega arith
@@ -80,17 +66,7 @@ overflow_mul-rem-then-root-rem c = let k = low _ _ _ _ _ c.loop-i.invariant c.lo
 pub overflow_add-rem-then-root-rem : goal.overflow_add-rem-then-root-rem
 overflow_add-rem-then-root-rem c = let k = low _ _ _ _ _ c.loop-i.invariant c.loop-i-test.true in omega arith
 
-pub overflow_add-root : goal.overflow_add-root
-overflow_add-root c = let k = low _ _ _ _ _ c.loop-i.invariant c.loop-i-test.true in omega arith
-
 pub loop-i-preserved : goal.loop-i-preserved
 loop-i-preserved c =
     let p : ℕ → ℕ → Type 0 = λ x y. Inv c.args.m (c.loop-i.left % 2 ^ 62 * 4) x y (c.loop-i.i + 1) in
     elim c.if-root-rem.branch [ then-root-rem w ↦ subst₂ p (sym w.root-is) (sym w.rem-is) (step-one c.args.m c.loop-i.left c.loop-i.root c.loop-i.rem c.loop-i.i c.loop-i.invariant c.loop-i-test.true w.if-root-rem.true) | else-root-rem w ↦ subst₂ p (sym w.root-is) (sym w.rem-is) (step-none c.args.m c.loop-i.left c.loop-i.root c.loop-i.rem c.loop-i.i c.loop-i.invariant c.loop-i-test.true w.if-root-rem.false) ]
-
-pub returns : goal.returns
-returns c =
-    let n : c.loop-i.i ≡ 55 = omega arith in
-    let e : c.args.m * 2 ^ 46 ≡ c.loop-i.root * c.loop-i.root + c.loop-i.rem =
-    done (c.loop-i.root * c.loop-i.root + c.loop-i.rem) c.args.m c.loop-i.left c.loop-i.invariant.word (c.loop-i.invariant.digits ∙ ap (λ (x : ℕ). c.args.m * 4 ^ x) n) in
-    (e, c.loop-i.invariant.rest, large c.args.m c.loop-i.root c.loop-i.rem c.requires e c.loop-i.invariant.rest, subst (λ (x : ℕ). c.loop-i.root < 2 ^ x) n c.loop-i.invariant.short)
