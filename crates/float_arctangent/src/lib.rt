@@ -78,6 +78,7 @@ fn guess(c: f64, n: &Near) -> Guess {
 }
 
 // One of A's three steps, which halve the angle, with a guess at the root. Origin of 1.0: document 01, q / (1 + sqrt(1 + q q)).
+#[tactic(auto, unfolding(crate::specs::Arctangent::halved_of, std::specs::Prelude::from_bits))]
 fn halved(q: f64, g: Guess) -> f64
     ensures { result ≡ halved_of q }
 {
@@ -96,6 +97,7 @@ pub fn atan(q: f64) -> f64
 }
 
 // y ÷ x, of two zeros 0.
+#[tactic(auto, unfolding(crate::specs::Arctangent::ratio_of, std::specs::Prelude::from_bits))]
 fn ratio(y: f64, x: f64) -> f64
     ensures { result ≡ ratio_of y x }
 {
@@ -126,6 +128,7 @@ fn with_sign_of_x(x: f64, a: f64) -> f64
 }
 
 // With y's sign bit set, of -0 too, the angle negated.
+#[tactic(auto, unfolding(crate::specs::Arctangent::with_sign_of_y))]
 fn with_sign_of_y(y: f64, b: f64) -> f64
     ensures { result ≡ with_sign_of_y y b }
 {
@@ -136,6 +139,7 @@ fn with_sign_of_y(y: f64, b: f64) -> f64
 }
 
 // The angle of (x, y), from -pi to pi; NaN where one is NaN or both are infinite.
+#[tactic(auto, unfolding(crate::specs::Arctangent::atan2_of))]
 pub fn atan2(y: f64, x: f64) -> f64
     ensures { result ≡ atan2_of y x }
 {
