@@ -146,6 +146,7 @@ fn is_near_point(p: [f64; 3]) -> bool
 }
 
 // Whether the points are near: their coordinates are finite and at most 2 in size. It promises what a true says and nothing of a false, on which no result rests: `face_test` answers the same with either, and takes longer without it.
+#[tactic(auto, unfolding(crate::specs::Inner::Margin::NearIn))]
 pub fn all_near(pts: &[[f64; 3]]) -> bool
     ensures { result ≡ true → NearIn pts.now }
 {
