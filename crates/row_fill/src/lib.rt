@@ -47,7 +47,7 @@ fn corners(panner: &VbapPanner, t: usize) -> [u8; 3]
 }
 
 // The gains of three points to the real ones.
-#[tactic(auto, unfolding(crate::specs::Inner::Filling::real_points))]
+#[tactic(auto, unfolding(crate::specs::Inner::Filling::real_points, lists::specs::Lists::from, lists::specs::Lists::range))]
 fn real_points(out: &mut [f32], slots: &[u8], points: [u8; 3], g: [f32; 3])
     ensures { out.new ≡ real_points slots.now points g out.old }
 {
@@ -58,7 +58,7 @@ fn real_points(out: &mut [f32], slots: &[u8], points: [u8; 3], g: [f32; 3])
 }
 
 // The gains of three points to the imaginary ones, behind the n real ones.
-#[tactic(auto, unfolding(crate::specs::Inner::Filling::imag_points))]
+#[tactic(auto, unfolding(crate::specs::Inner::Filling::imag_points, lists::specs::Lists::from, lists::specs::Lists::range, std::specs::Prelude::from_bits))]
 fn imag_points(n: usize, points: [u8; 3], g: [f32; 3]) -> [f32; MAX_IMAGINARY]
     ensures { result ≡ imag_points n points g }
 {
@@ -92,6 +92,7 @@ fn share(out: &mut [f32], nbrs: &[u8], g: f32)
 }
 
 // Those of all imaginary points.
+#[tactic(auto, using(crate::proofs::Places::shared_none, crate::proofs::Places::shared_more, lists::proofs::Tests::every_get_d))]
 fn share_out(out: &mut [f32], panner: &VbapPanner, sums: &[f32; MAX_IMAGINARY])
     requires { PointCounts panner.now }
     ensures { out.new ≡ shared_out panner.now.num_nbrs panner.now.imag_nbrs sums.now panner.now.num_imag out.old }
