@@ -23,6 +23,7 @@ const LEAST_ROW_POWER: f32 = 1e-12;
 // ---- the chosen triplet
 
 // The lesser of two floats; of a NaN and another, the other. Not `float_order::min32`: without a branch many are compared at once.
+#[tactic(auto, using(crate::proofs::Places::lesser_second, crate::proofs::Places::lesser_first))]
 fn lesser(a: f32, b: f32) -> f32
     ensures { result ≡ min_of a b }
 {
@@ -38,6 +39,7 @@ fn dot(a: f32, b: f32, c: f32, s: [f32; 3]) -> f32
 }
 
 // Row r of the inverse of triplet t, times the direction.
+#[tactic(auto, using(crate::proofs::Places::gain_told))]
 fn gain(inv: &[f32; 720], t: usize, r: usize, s: [f32; 3]) -> f32
     requires { (t < 80) × (r < 3) }
     ensures { result ≡ gain_at s inv.now t r }
@@ -96,6 +98,7 @@ fn times(out: &mut [f32], x: f32)
 }
 
 // To power 1.
+#[tactic(auto, using(crate::proofs::Places::scaled_yes, crate::proofs::Places::scaled_no), unfolding(std::specs::Prelude::from_bits))]
 fn scale(out: &mut [f32])
     ensures { out.new ≡ scaled out.old }
 {
@@ -107,6 +110,7 @@ fn scale(out: &mut [f32])
 
 // ---- the nearest speaker, where no triplet was chosen
 
+#[tactic(auto, using(crate::proofs::Places::product_told))]
 fn product(dirs: &[f32; 120], i: usize, s: [f32; 3]) -> f32
     requires { i < 40 }
     ensures { result ≡ dot_in binary32 (part 3 dirs.now i) s }
@@ -131,6 +135,7 @@ fn nearest_point(panner: &VbapPanner, s: [f32; 3]) -> usize
 }
 
 // +0 throughout, and 1 in the slot of the nearest real point; nothing there where there is none.
+#[tactic(auto, using(crate::proofs::Places::nearest_set, crate::proofs::Places::nearest_none), unfolding(std::specs::Prelude::from_bits))]
 fn nearest(out: &mut [f32], panner: &VbapPanner, s: [f32; 3])
     requires { PointCounts panner.now }
     ensures { out.new ≡ nearest_in s panner.now.pt_out panner.now.pt_dir panner.now.num_real (replicate (length out.old) +0) }
