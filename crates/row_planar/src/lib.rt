@@ -113,6 +113,7 @@ fn by_law(az: f32, p: &PlanarPair) -> PairGains
 // ---- elevation
 
 // The part of the power that goes to all speakers alike.
+#[tactic(auto, using(crate::proofs::Zeros::still_spread), unfolding(crate::specs::PlanarRow::planar_spread, float_order::specs::Order::square_of, std::specs::Prelude::from_bits))]
 fn planar_spread(el: f32) -> f32
     ensures { result ≡ planar_spread el }
 {
@@ -144,7 +145,7 @@ struct Spread {
 }
 
 // One slot's gain, spread.
-#[tactic(auto, unfolding(crate::specs::PlanarRow::spread_at))]
+#[tactic(auto, using(crate::proofs::Rows::spread_by, crate::proofs::Zeros::silent_spread), unfolding(crate::specs::PlanarRow::spread_at, std::specs::Prelude::from_bits))]
 fn spread_at(row: &mut [f32], slot: u8, s: &Spread)
     ensures { row.new ≡ spread_at s.now.w s.now.d2 row.old slot }
 {
@@ -194,6 +195,7 @@ fn pair_row(el: f32, p: &PlanarPair, g: PairGains, slots: &[u8], row: &mut [f32]
 
 // The row of the pairs and slots in all places of out.
 // Free to the program: the sign and payload of a NaN in a row of a layout made by hand. Every choice is a NaN, and a quiet one, since every gain is computed. A layout from `new` gives none (crate theorem_rows).
+#[tactic(auto, using(crate::proofs::Branches::planar_silent, crate::proofs::Branches::planar_sounds))]
 pub fn planar_row(pairs: &[PlanarPair], slots: &[u8], az: f32, el: f32, out: &mut [f32])
     ensures { out.new ≡ planar_row (length out.old) az el pairs.now slots.now }
 {
