@@ -1,20 +1,20 @@
 -- Laws of insertion: what stores in an array do, and that an insertion opens the place of its spot. Assumes nothing.
 use Prim.Native.Nat.{ℕ, suc, ◌+◌, ◌-◌, ◌≤◌, ◌<◌}
 use mathlib.Core.Path.{◌≡◌, refl, sym, ap, ap₂, ◌∙◌}
-use mathlib.Core.Bool.{Bool, true, false, cond, ◌&&◌}
+use mathlib.Core.Bool.{Bool, true, false, cond, ◌&&◌, and_assoc, and-true}
 use mathlib.Core.List.{List, [], ◌∷◌, ◌++◌, foldl}
 use native.Mathlib.Nat.{add-zero}
 use native.Mathlib.Numerals.{add-one}
 use native.Mathlib.Omega.{arith}
-use lib.ListN.{replicate, length, get_or, take, drop, length-append, length-drop, drop_of_length-le}
+use lib.ListN.{length, get_or, take, drop, length-drop, drop_of_length-le}
 use borrow.Rule.Slice.PartMut.{put_mid}
 use Rattle.std.proofs.Common.{append-nil}
 use Rattle.std.proofs.lemmas.List.{take-take, drop-take}
 use Rattle.std.proofs.lemmas.Slice.{put_mid-paste}
 use lib.Seq.{drop-cons, get_or_at, length-take-le, take_at, drop_at, take-add, take-suc, drop-drop, take_all}
 use lib.Ieee.{nan, lt}
-use Rattle.lists.specs.Lists.{position, every, filled}
-use Rattle.lists.proofs.Tests.{and_comm, and_assoc, and_true}
+use Rattle.lists.specs.Lists.{position, every}
+use Rattle.lists.proofs.Tests.{and_comm}
 use Rattle.lists.proofs.Search.{position_le}
 use Rattle.lists.proofs.Collect.{foldl_snoc}
 use Rattle.angle_sort.specs.declared.Spot.{Spot}
@@ -106,7 +106,7 @@ module _ (f : Spot → Bool) where
 
   every_folded : (l m : List Spot) → every f (foldl insert_of m l) ≡ every f m && every f l
   unfolding every
-  every_folded [] m = sym (and_true (every f m))
+  every_folded [] m = sym (and-true (every f m))
   every_folded (s ∷ l) m =
       every_folded l (insert_of m s) ∙ ap (λ (b : Bool). b && every f l) (every_insert m s) ∙ and_assoc (every f m) (f s) (every f l)
 
@@ -144,11 +144,6 @@ pub sorted_none : (a : List Spot) → a ≡ sorted_in a 0
 unfolding sorted_in sorted_of
 sorted_none a = refl
 
-pub length_sorted_in : (a : List Spot) (q : ℕ) → q ≤ length a → length (sorted_in a q) ≡ length a
-unfolding sorted_in
-length_sorted_in a q h =
-    omega (arith, length-append (sorted_of (take q a)) (drop q a), length_sorted (take q a), length-take-le q a h, length-drop q a)
-
 -- the next one to be inserted is as it was
 pub sorted_next : (a : List Spot) (q : ℕ) → q < length a → get_or (sorted_in a q) q no_spot ≡ get_or a q no_spot
 unfolding sorted_in
@@ -171,9 +166,3 @@ sorted_more a q h =
 pub sorted_all : (a : List Spot) (q : ℕ) → length a ≤ q → sorted_in a q ≡ sorted_of a
 unfolding sorted_in
 sorted_all a q h = rw (take_all q a h, drop_of_length-le a h, append-nil) refl
-
--- a list that fills an array is sorted in its places
-pub sorted_filled : (k : ℕ) (z : Spot) (l : List Spot) (n : ℕ) → length l ≡ n → sorted_in (filled k z l) n ≡ filled k z (sorted_of l)
-unfolding sorted_in filled
-sorted_filled k z l n h =
-    rw (take_at l (replicate (k - length l) z) n h, drop_at l (replicate (k - length l) z) n h, length_sorted l) refl

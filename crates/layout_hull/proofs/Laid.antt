@@ -1,7 +1,7 @@
 -- Laws of verdicts that are laid in the arrays: what one verdict more changes. A kept triplet is stored behind the others, up to 80. Assumes nothing.
 use Prim.Native.Nat.{ℕ, zero, suc, ◌+◌, ◌*◌, ◌≤◌, ◌<◌}
 use mathlib.Core.Path.{◌≡◌, refl, sym, ap, ◌∙◌}
-use mathlib.Core.Bool.{Bool, true, false, ◌&&◌, not}
+use mathlib.Core.Bool.{Bool, true, false, ◌&&◌, not, and-true}
 use mathlib.Core.List.{List, [], ◌∷◌, ◌++◌, map, map-append, flat_map, append_assoc, append-nil}
 use native.Mathlib.Numerals.{add-one}
 use native.Mathlib.Omega.{arith}
@@ -14,7 +14,7 @@ use Rattle.lists.specs.Lists.{from, range, between, collect, any, is_empty, fill
 use Rattle.lists.proofs.Ranges.{range_none, range_snoc, range_between, between_none, between_cons}
 use Rattle.lists.proofs.Collect.{flat_map_snoc, foldl_snoc, collect_some, collect_none}
 use Rattle.lists.proofs.Filled.{set_filled, set_filled_at, length_filled}
-use Rattle.lists.proofs.Tests.{and_true, and_comm, or_false, or_true, any_snoc}
+use Rattle.lists.proofs.Tests.{and_comm, or_false, or_true, any_snoc}
 use Rattle.lists.proofs.Rows.{set_append_right}
 use Rattle.float_order.specs.Values.{+0}
 use Rattle.vector.specs.Vector.{Points}
@@ -173,7 +173,7 @@ module _ (n : ℕ) (vs : List Verdict) where
 
 pub laid_start : (n : ℕ) → ◌≡◌ {A = Hull} (record { idx = replicate 240 0; inv = replicate 720 +0; count = 0; over = false; enclosed = leb 4 n }) (laid_of n [])
 unfolding laid_of collect any numbers_of inverses_of entries_of filled flat_map range from
-laid_start n = rw (and_true (leb 4 n)) refl
+laid_start n = rw (and-true (leb 4 n)) refl
 
 no_front : (l : List Triplet) → eqb (length (take 80 l)) 0 ≡ is_empty l
 unfolding is_empty

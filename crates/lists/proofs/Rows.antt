@@ -2,7 +2,7 @@
 use Prim.Native.Nat.{ℕ, zero, suc, ◌+◌, ◌-◌, ◌*◌, ◌≤◌, ◌<◌}
 use mathlib.Core.Path.{◌≡◌, refl, sym, ap, ◌∙◌}
 use mathlib.Core.Bool.{true}
-use mathlib.Core.List.{List, [], ◌∷◌, ◌++◌, append_assoc, map, flat_map}
+use mathlib.Core.List.{List, [], ◌∷◌, ◌++◌, append_assoc, flat_map}
 use native.Mathlib.Nat.{suc-add, add-suc, add-zero, zero-add, zero-mul, suc-mul, add-mul, mul-le-mul_right, le_of_suc-le-suc, not-suc-le-zero, suc_inj}
 use native.Mathlib.Omega.{arith}
 use borrow.Author.Tests.{eq-eqb}
@@ -182,8 +182,3 @@ module _ {A B : Type 0} (w : ℕ) (f : A → List B) where
   unfolding range
   range_rows g z l d m r h e o =
       from_rows g z l d m 0 r h (λ i k. rw (zero-add i) (e i k)) (λ i k b. rw (zero-add i) (o i k b))
-
-pub map_set : {A B : Type 0} (f : A → B) (l : List A) (i : ℕ) (a : A) → map f (set l i a) ≡ set (map f l) i (f a)
-map_set f [] i a = refl
-map_set f (g ∷ l) zero a = refl
-map_set {A} {B} f (g ∷ l) (suc i) a = ap (λ (m : List B). f g ∷ m) (map_set f l i a)

@@ -1,7 +1,7 @@
 -- Laws of tests: of two Bools; of `every` and `any` over `++`, over parts of a list, by one another, and at a turn of a loop over the first n elements; of `is_empty`. Assumes nothing.
 use Prim.Native.Nat.{zero, ℕ, suc, ◌+◌, ◌*◌, ◌≤◌, ◌<◌}
 use mathlib.Core.Path.{◌≡◌, refl, sym, ap, ◌∙◌}
-use mathlib.Core.Bool.{Bool, true, false, ◌&&◌, ◌||◌, cond}
+use mathlib.Core.Bool.{Bool, true, false, ◌&&◌, ◌||◌, cond, and_assoc, and-true}
 use mathlib.Core.Logic.{◌⊎◌, inl, inr}
 use mathlib.Core.List.{List, [], ◌∷◌, ◌++◌, map, flat_map}
 use native.Mathlib.Nat.{not-suc-le-zero}
@@ -15,17 +15,9 @@ use Rattle.lists.specs.Lists.{every, any, is_empty, part}
 
 -- ---- two Bools
 
-pub and_assoc : (a b c : Bool) → a && b && c ≡ a && (b && c)
-and_assoc true b c = refl
-and_assoc false b c = refl
-
 pub or_assoc : (a b c : Bool) → a || b || c ≡ a || (b || c)
 or_assoc true b c = refl
 or_assoc false b c = refl
-
-pub and_true : (a : Bool) → a && true ≡ a
-and_true true = refl
-and_true false = refl
 
 pub or_false : (a : Bool) → a || false ≡ a
 or_false true = refl
@@ -106,7 +98,7 @@ module _ {A : Type 0} (f : A → Bool) where
 
   pub every_snoc : (l : List A) (a : A) → every f (l ++ a ∷ []) ≡ every f l && f a
   unfolding every
-  every_snoc l a = every_append l (a ∷ []) ∙ ap (λ (b : Bool). every f l && b) (and_true (f a))
+  every_snoc l a = every_append l (a ∷ []) ∙ ap (λ (b : Bool). every f l && b) (and-true (f a))
 
   pub any_append : (l m : List A) → any f (l ++ m) ≡ any f l || any f m
   unfolding any
@@ -216,33 +208,9 @@ module _ {A : Type 0} (f : A → Bool) (l : List A) (n i : ℕ) where
   unfolding every
   every_end h m = rw (front_end l n i h m)
 
-  pub any_turn : (d : A) → i < n → n ≤ length l → any f (drop i (take n l)) ≡ f (get_or l i d) || any f (drop (i + 1) (take n l))
-  unfolding any
-  any_turn d h m = rw (front_cons l n i d h m)
-
-  pub any_yes : (d : A) → i < n → n ≤ length l → f (get_or l i d) ≡ true → any f (drop i (take n l)) ≡ true
-  any_yes d h m p = rw (any_turn d h m, p)
-
-  pub any_no : (d : A) → i < n → n ≤ length l → f (get_or l i d) ≡ false → any f (drop i (take n l)) ≡ any f (drop (i + 1) (take n l))
-  any_no d h m p = rw (any_turn d h m, p)
-
-  pub any_end : n ≤ i → n ≤ length l → any f (drop i (take n l)) ≡ false
-  unfolding any
-  any_end h m = rw (front_end l n i h m)
-
 -- ---- no element
 
 pub empty_length : {A : Type 0} (l : List A) → is_empty l ≡ eqb (length l) 0
 unfolding is_empty
 empty_length [] = refl
 empty_length (a ∷ l) = sym (ne_eqb (suc (length l)) 0 (λ e. omega arith))
-
--- the first n of an array's elements
-pub none_taken : {A : Type 0} (l : List A) (n : ℕ) → n ≡ 0 → is_empty (take n l) ≡ true
-unfolding is_empty
-none_taken l n e = rw e
-
-pub some_taken : {A : Type 0} (l : List A) (n : ℕ) → n ≤ length l → (n ≡ 0 → ⊥) → is_empty (take n l) ≡ false
-some_taken l n fits some =
-    let long : length (take n l) ≡ n = length-take-le n l fits in
-    empty_length (take n l) ∙ ne_eqb (length (take n l)) 0 (λ z. some (omega arith))

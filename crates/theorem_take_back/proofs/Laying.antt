@@ -8,7 +8,7 @@ use native.Mathlib.Omega.{arith}
 use borrow.Author.Tests.{le-ltb}
 use lib.Dec.{ltb}
 use lib.ListN.{length, get_or, set, take, drop, replicate, length-append, length-replicate, length-set, length-map, get_or-map, drop_of_length-le}
-use lib.Seq.{sets, drop-cons}
+use lib.Seq.{sets, drop-cons, map-set}
 use lib.Ieee.{Float, nan}
 use Rattle.lists.specs.Lists.{Each, any, but_last, filled, part}
 use Rattle.lists.proofs.Each.{each_imply, each_set, each_get_d, each_replicate, each_filled, each_map, length_rows}
@@ -26,7 +26,7 @@ use Rattle.session_calls.specs.Session.{stood, start_row}
 use Rattle.theorem_take_back.specs.Demand3.{Alike}
 use Rattle.theorem_take_back.specs.Laid.{places_of, start_of, laid_at}
 use Rattle.theorem_take_back.proofs.Fields.{stood_same}
-use Rattle.lists.proofs.Rows.{Wide, get_d_filled_any, sets_filled, filled_replicate, rows_in_part, rows_in_get_d, rows_in_rest, rows_in_sets, rows_in_replicate, map_set}
+use Rattle.lists.proofs.Rows.{Wide, get_d_filled_any, sets_filled, filled_replicate, rows_in_part, rows_in_get_d, rows_in_rest, rows_in_sets, rows_in_replicate}
 use Rattle.theorem_take_back.proofs.Places.{but_last_length, places, places_length, places_none, places_push, places_pop, places_at, places_same, places_settle, start_same}
 
 -- what open's acceptance says of its record, its layout and its count of sources
@@ -202,7 +202,7 @@ module _ (deep : ℕ) (v : VbapPanner) (l : Layout) (n : ℕ) (s : Setting v l n
           let p : Past = relisted f here in
           let i' : i < length ps = omega (arith, g.many) in
           stood_same t (laid_at deep v (set ps i p)) (record { panner = refl; sources = sym (length-set ps i p) }) i c (sets t.standing (i * (deep * 2) + j * 2) vs)
-          (sets_filled most_sources 0 (map count ps) i (c ∷ []) (omega (arith, length-map ps count)) ∙ ap (filled most_sources 0) (rw (← e) (sym (map_set count ps i p))))
+          (sets_filled most_sources 0 (map count ps) i (c ∷ []) (omega (arith, length-map ps count)) ∙ ap (filled most_sources 0) (rw (← e) (sym (map-set count ps i p))))
           (rows_in_sets (deep * 2) (places_of deep) (most_sources * (deep * 2)) +0 ps u i (j * 2) p vs wide i' m h)
           (rows_in_sets row_places start_of (most_sources * row_places) +0 ps u i 0 p [] wide_starts i' (omega arith) refl)
 
