@@ -1,7 +1,7 @@
-use Rattle.std.proofs.Common.{◌≡◌, ◌<◌, ◌≤◌, List, length, take, get_or, ap, ◌∙◌, arith, rules, length-take-le}
+use Rattle.std.proofs.Common.{◌≡◌, ◌<◌, ◌≤◌, List, length, take, get_or, ap, ◌∙◌, arith, length-take-le}
 use Rattle.angle_sort.specs.declared.Spot.{Spot}
 use Rattle.angle_sort.specs.Inner.Front.{place_of, opened_of}
-use Rattle.angle_sort.proofs.Insertion.{no_spot, long_part, turned_opened, opened_inserted, sorted_none, sorted_next, sorted_more, sorted_all}
+use Rattle.angle_sort.proofs.Insertion.{no_spot, turned_opened, opened_inserted, sorted_none, sorted_next, sorted_more, sorted_all}
 use Rattle.angle_sort.proofs.sort.Goals as goal
 use Rattle.angle_sort.proofs.sort.Goals.{After-place-p}
 
@@ -12,21 +12,6 @@ before s =
 
 pub loop-q-init : goal.loop-q-init
 loop-q-init c = sorted_none _
-
-pub slice_bounds-rotate_right-count : goal.slice_bounds-rotate_right-count
-slice_bounds-rotate_right-count c = omega (arith, before (goal.at.slice_bounds-rotate_right-count c).After-place-p)
-
-pub slice_bounds-rotate_right-start : goal.slice_bounds-rotate_right-start
-slice_bounds-rotate_right-start c = omega (arith, before (goal.at.slice_bounds-rotate_right-start c).After-place-p)
-
-pub offset_bounds-spots-p : goal.offset_bounds-spots-p
-offset_bounds-spots-p c =
-    let h : c.place-p.result ≤ c.loop-q.q = before (goal.at.offset_bounds-spots-p c).After-place-p in search rules
-
-pub rotate_right-requires : goal.rotate_right-requires
-rotate_right-requires c =
-    let h : c.place-p.result ≤ c.loop-q.q = before (goal.at.rotate_right-requires c).After-place-p in
-    omega (arith, long_part c.loop-q.spots c.place-p.result c.loop-q.q h (omega arith))
 
 pub loop-q-preserved : goal.loop-q-preserved
 loop-q-preserved c =
