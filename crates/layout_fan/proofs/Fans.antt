@@ -1,15 +1,13 @@
 -- Laws of the points in one plane: those that a loop passes, and the fan of their angles. Assumes nothing.
 use Rattle.std.proofs.Common.{◌≡◌, ℕ, zero, suc, ◌+◌, ◌-◌, ◌≤◌, ◌<◌, Bool, true, false, cond, ◌&&◌, List, [], ◌∷◌, ◌++◌, map, length, get_or, take, set, refl, sym, ap, ◌∙◌, add-one, arith, length-append, lt-ltb, ltb-true, eq-eqb, ltb, eqb}
-use mathlib.Core.List.{map-append}
 use lib.Ieee.{Float, neg, le}
-use lib.Seq.{take-suc, take-suc-set}
+use lib.Seq.{take-suc-set}
 use Rattle.lists.specs.Lists.{from, range, between, filter, every}
 use Rattle.lists.proofs.Ranges.{range_none, range_snoc, range_between, between_cons, between_append, length_between}
 use Rattle.lists.proofs.Tests.{or_true, every_at, empty_length}
 use Rattle.lists.proofs.Collect.{filter_append, filter_yes, filter_no, length_filter}
 use Rattle.vector.specs.Vector.{Vector, Points}
 use Rattle.layout_faces.specs.Faces.{Plane, eps, point, others, height, is_other}
-use Rattle.angle_sort.specs.declared.Spot.{Spot}
 use Rattle.angle_sort.specs.Order.{sorted_of}
 use Rattle.layout_fan.specs.declared.Basis.{Basis}
 use Rattle.layout_fan.specs.Fan.{coplanar, adjacent, in_fan, fan, angle_in}
@@ -138,16 +136,8 @@ below_coplanar pts i j k f = rw (← coplanar_range pts i j k f) (below_range (c
 pub below_at : (n : ℕ) (l : List ℕ) (q : ℕ) → every (λ p. ltb p n) l ≡ true → q < length l → get_or l q 0 < n
 below_at n l q e h = ltb-true (get_or l q 0) n (every_at (λ p. ltb p n) l q 0 e h)
 
--- ---- the spots of a fan, in the first places of an array: one more
+-- ---- the fan by what the code computed: the basis and the angle of point i
 
-pub spots_more : (f : ℕ → Spot) (j k : ℕ) (l : List ℕ) (q : ℕ) (a : List Spot) → q < length l → q + 2 < length a → take (q + 2) a ≡ map f (j ∷ k ∷ take q l)
-    → take (q + 1 + 2) (set a (q + 2) (f (get_or l q 0))) ≡ map f (j ∷ k ∷ take (q + 1) l)
-spots_more f j k l q a h g e =
-    let s : q + 1 + 2 ≡ suc (q + 2) = omega arith in
-    let m : map f (j ∷ k ∷ take q l) ++ f (get_or l q 0) ∷ [] ≡ map f (j ∷ k ∷ take (q + 1) l) = rw (add-one, take-suc l q 0 h, map-append f) refl in
-    rw (s, take-suc-set a (q + 2) (f (get_or l q 0)) g, e) m
-
--- the fan by what the code computed: the basis and the angle of point i
 pub fan_told : (pts : Points) (nrm : Vector) (i : ℕ) (ps : List ℕ) {b : Basis} {first : Float} → b ≡ basis_of nrm → first ≡ angle_by b (point pts i)
     → sorted_of (map (λ p. spot_of b first p (point pts p)) ps) ≡ fan pts nrm i ps
 unfolding fan angle_in

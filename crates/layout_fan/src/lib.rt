@@ -54,6 +54,7 @@ fn is_lowest(i: usize, numbers: &[usize]) -> bool
 }
 
 // An axis that is not along the normal. Origin: vbap.rs line 325, the first axis or the second.
+#[tactic(auto, unfolding(crate::specs::Fan::helper, std::specs::Prelude::from_bits))]
 fn helper_axis(nrm: [f64; 3]) -> [f64; 3]
     ensures { result ≡ helper nrm }
 {
