@@ -26,6 +26,7 @@ pub struct Hull {
 }
 
 // The determinant of the matrix of three points.
+#[tactic(auto, using(vector::proofs::Rows::determinant_dot))]
 fn determinant(a: [f64; 3], b: [f64; 3], c: [f64; 3]) -> f64
     ensures { result ≡ determinant_of a b c }
 {
@@ -64,6 +65,7 @@ fn put_numbers(to: &mut [u8; 240], p: usize, t: Triple)
 }
 
 // The inverse of the triplet at place p stored, entry e at e * 80 + p. Origin of 80: document 01, refusal 4.
+#[tactic(auto, using(lists::proofs::Collect::foldl_snoc, lists::proofs::Ranges::range_none, lists::proofs::Ranges::range_snoc), unfolding(crate::specs::Inner::Steps::inverses_with))]
 fn put_inverse(to: &mut [f32; 720], p: usize, m: [f32; 9])
     requires { p < 80 }
     ensures { to.new ≡ inverses_with to.old p m 9 }
