@@ -1,28 +1,23 @@
--- Laws of `any`: as std has it, with one element more, and of parts of a list of which none passes. Assumes nothing.
+-- Laws of `any`: as std has it, and of parts of a list of which none passes. Assumes nothing.
+use borrow.Author.Tests.{not-true}
 use Prim.Native.Nat.{ℕ, ◌+◌, ◌<◌}
 use mathlib.Core.Path.{◌≡◌, refl, sym, ap, ◌∙◌}
 use mathlib.Core.Bool.{Bool, true, false, not, ◌||◌}
 use mathlib.Core.List.{List, [], ◌∷◌, flat_map}
-use native.Mathlib.Numerals.{add-one}
 use native.Mathlib.Omega.{arith}
-use lib.ListN.{length, get_or, take}
-use lib.Seq.{take-suc}
+use lib.ListN.{take}
 use Rattle.std.specs.List.{list_any}
 use Rattle.std.proofs.lemmas.List.Folds.{list_any_at}
 use Rattle.lists.specs.Lists.{every, any, part, range, from}
 use Rattle.lists.proofs.Collect.{flat_map_snoc}
 use Rattle.lists.proofs.Ranges.{range_snoc, length_range, get_d_range}
-use Rattle.lists.proofs.Tests.{every_none, every_take, every_part, any_append, any_snoc, any_never, any_flat_map, neither}
+use Rattle.lists.proofs.Tests.{every_none, every_take, every_part, any_append, any_never, any_flat_map, neither}
 
 module _ {A : Type 0} (f : A → Bool) where
   pub any_is : (l : List A) → list_any f l ≡ any f l
   unfolding any
   any_is [] = refl
   any_is (a ∷ l) = ap (λ (b : Bool). f a || b) (any_is l)
-
-  -- with one more element of a longer list
-  pub any_next : (l : List A) (i : ℕ) (d : A) → i < length l → any f (take (i + 1) l) ≡ any f (take i l) || f (get_or l i d)
-  any_next l i d h = rw add-one (ap (any f) (take-suc l i d h) ∙ any_snoc f (take i l) (get_or l i d))
 
 -- where no element passes a test, each passes one that follows from that
 pub every_if_none : {A : Type 0} {f g : A → Bool} → ((a : A) → f a ≡ false → g a ≡ true) → (l : List A) → any f l ≡ false → every g l ≡ true
@@ -39,11 +34,7 @@ none_in_parts f n l used ks e =
     let g = λ (a : _). not (f a) in
     any_flat_map f (λ k. take (used k) (part n l k)) ks
     ∙ any_never (λ k. any f (take (used k) (part n l k)))
-    (λ k. every_none (λ a p. no (f a) p) (take (used k) (part n l k)) (every_take g (used k) (part n l k) (every_part g n l k (every_if_none (λ a p. rw p) l e)))) ks
-  where
-    no : (b : Bool) → not b ≡ true → b ≡ false
-    no true p = cc
-    no false p = refl
+    (λ k. every_none (λ a p. not-true (f a) p) (take (used k) (part n l k)) (every_take g (used k) (part n l k) (every_part g n l k (every_if_none (λ a p. rw p) l e)))) ks
 
 -- a loop over lists: none of those passed has an element that passes, one more, and one that has
 module _ (f : ℕ → Bool) (at : ℕ → List ℕ) where

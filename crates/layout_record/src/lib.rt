@@ -113,6 +113,7 @@ impl VbapPanner {
 // ---- numbers over a bound
 
 // Whether some byte is not below the bound: all are compared, with no exit from the loop, so that many are compared at once.
+#[tactic(auto, unfolding(lists::specs::Lists::any))]
 fn over(xs: &[u8], bound: u8) -> bool
     ensures { result ≡ any_from bound xs.now }
 {
@@ -182,6 +183,7 @@ pub fn counts_over(p: &VbapPanner) -> bool
 }
 
 // Whether a count is over its array, a used slot number is not below the outputs, or a used point number not below real plus imaginary.
+#[tactic(auto, using(crate::proofs::Counts::within, crate::proofs::Numbers::out_silent, crate::proofs::Numbers::out_mono, crate::proofs::Numbers::out_planar, crate::proofs::Numbers::out_hull), unfolding(crate::specs::Malformed::counts_over, crate::specs::Malformed::malformed_of, crate::specs::Malformed::numbers_out))]
 pub fn malformed(p: &VbapPanner) -> bool
     ensures { result ≡ malformed_of p.now }
 {

@@ -1,4 +1,4 @@
-use Rattle.std.proofs.Common.{◌≡◌, ℕ, ◌≤◌, leb, get_or, refl, sym, ap, ◌∙◌, arith, leb-true}
+use Rattle.std.proofs.Common.{ℕ, ◌≤◌, leb, get_or, refl, sym, ap, ◌∙◌, arith, leb-true}
 use Rattle.lists.specs.Lists.{any, range}
 use Rattle.lists.proofs.Tests.{every_get_d}
 use Rattle.layout_record.specs.Panner.{near_in}
@@ -33,8 +33,3 @@ loop-k-preserved c =
     let f = λ (x : ℕ). leb c.args.bound x in
     passed_more f (near_in v.num_nbrs v.imag_nbrs) c.loop-k.k c.loop-k.invariant
     (ap (any f) (sym c.neighbours.ensures) ∙ sym c.over-in-loop-k.ensures ∙ c.if-over.false)
-
-pub returns : goal.returns
-returns c =
-    let e : c.loop-k.k ≡ c.args.p.now.num_imag = omega arith in
-    sym (rw e at c.loop-k.invariant)
