@@ -19,13 +19,6 @@ unfolding sum_of
 last z s t [] h e = e
 last z s t (x ∷ xs) h e = absurd (omega arith)
 
-pub loop-c-init : goal.loop-c-init
-loop-c-init c =
-    let z = c.args.z in
-    let h = c.in-Some.highest.now in
-    let q : c.into_iter-c-iterator.result.iter.rest.now ≡ c.in-Some.rest.now = cc (c.iter.ensures.rest, c.rev-c-items.ensures.source, c.into_iter-c-iterator.ensures.into_iter_gives) in
-    ap (λ (r : List Float). sum_of z (r ++ (h ∷ []))) q ∙ ap (sum_of z) (sym c.in-Some.ensures.cases.0)
-
 pub loop-c-preserved : goal.loop-c-preserved
 loop-c-preserved c =
     let z = c.args.z in
