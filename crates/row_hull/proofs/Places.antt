@@ -7,7 +7,7 @@ use native.Mathlib.Nat.{add-zero}
 use native.Mathlib.Numerals.{add-one}
 use native.Mathlib.Omega.{arith}
 use lib.ListN.{length, get_or, set, take, get_or-eq_default}
-use lib.Seq.{take-suc-set, length-take-le, get_or-take, set_out}
+use lib.Seq.{take-suc-set, set_out}
 use lib.Dec.{T}
 use lib.Ieee.{Float, nan, binary32, div, lt, ne}
 use lib.Ieee.Compare.{differs_from_itself}
