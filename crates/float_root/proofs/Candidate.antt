@@ -1,20 +1,20 @@
 -- A candidate for a root that passed the test is rounded as the root is. Assumes nothing.
 use mathlib.Core.Path.{◌≡◌, refl, sym, ap, ◌∙◌, subst}
 use mathlib.Core.Logic.{inl, inr}
-use mathlib.Core.Bool.{false, not}
+use mathlib.Core.Bool.{false}
 use Prim.Native.Nat.{ℕ, suc, ◌+◌, ◌-◌, ◌*◌, ◌/◌, ◌%◌, ◌^◌, ◌≤◌, ◌<◌}
-use native.Mathlib.Nat.{mul_assoc, mul-le-mul_right, le_trans, le_of_eq, le_of_lt, zero-add, eq-zero-or-pos}
+use native.Mathlib.Nat.{mul_assoc, mul-le-mul_right, le_trans, le_of_eq, le_of_lt, eq-zero-or-pos}
 use native.Mathlib.Omega.{arith}
 use borrow.Author.Tests.{lt-leb}
 use lib.Dec.{T}
 use lib.Pow.{pow-add}
-use lib.Ieee.{Float, Format, binary32, binary64, prec, emax, low, nearest, units, fits, hid, ones, top, nan_bits, of_bits, to_bits}
+use lib.Ieee.{Float, Format, binary32, binary64, prec, emax, low, nearest, units, fits, hid, ones, top, of_bits, to_bits}
 use lib.Ieee.Bits.{of_bits-to_bits}
 use lib.Ieee.Nearest.{closest}
 use Rattle.float_root.specs.Root.{round_root, sqrt_of}
-use Rattle.float_order.specs.Width.{Weights}
+use Rattle.float_order.specs.Width.{Weights, Patterned}
 use Rattle.float_order.proofs.Weights.{at_weights}
-use Rattle.float_order.proofs.Laws.{is_lt, is_gt, closest_by, of_pattern, pattern_no_nan}
+use Rattle.float_order.proofs.Laws.{is_lt, is_gt, closest_by, of_pattern}
 use Rattle.float_widths.proofs.Grid.{le_or_lt}
 use Rattle.float_root_digits.proofs.Squares.{sq_lt, sq_suc, sq_twice}
 use Rattle.float_root_digits.proofs.Digits.{IsNearest, doubled}
@@ -114,7 +114,7 @@ fields binary32 p z o =
 fields binary64 p z o =
     record { exponent = omega arith; digits = omega arith; leading = omega arith; odd = omega arith; some = λ h. omega arith; finite = λ h. omega arith; unsigned = omega arith }
 
-pub quick_root : (f : Format) (x : Float) → T (fits f x) → (n q : ℕ) → (to_bits f x / hid f ≡ 0 → ⊥) → to_bits f x / hid f < ones f → n ≡ (to_bits f x % hid f + hid f) * 2 ^ (1 - to_bits f x / hid f % 2)
+quick_root : (f : Format) (x : Float) → T (fits f x) → (n q : ℕ) → (to_bits f x / hid f ≡ 0 → ⊥) → to_bits f x / hid f < ones f → n ≡ (to_bits f x % hid f + hid f) * 2 ^ (1 - to_bits f x / hid f % 2)
     → IsNearest (n * hid f) q → hid f ≤ q → q < 2 ^ prec f → units f false q ((to_bits f x / hid f + (emax f - 2)) / 2) ≡ sqrt_of f x
 quick_root f x fit n q z o e h lo hi =
     let p = to_bits f x in
@@ -124,28 +124,48 @@ quick_root f x fit n q z o e h lo hi =
     (le_trans r.leading (le_trans (doubled m (p / hid f % 2) r.odd).0 (le_of_eq (sym e)))) r.digits r.exponent h lo hi
     ∙ sqrt_mid f x fit r.some r.finite (lt-leb (top f) p r.unsigned)
 
--- ---- a pattern below the infinity's is no NaN's
-pub low_pattern : (p : ℕ) → 2 ^ 52 ≤ p → p < 2047 * 2 ^ 52 → T (not (nan_bits binary64 p))
-low_pattern p lo hi =
-    let q = p % 2 ^ 52 + 2 ^ 52 in
-    let k = p / 2 ^ 52 - 1 in
-    subst (λ (x : ℕ). T (not (nan_bits binary64 x))) (sum p lo) (pattern_no_nan binary64 false q k (omega arith) (λ _. omega arith) (omega arith))
-  where
-    sum : (p : ℕ) → 2 ^ 52 ≤ p → 0 + ((p / 2 ^ 52 - 1) * 2 ^ 52 + (p % 2 ^ 52 + 2 ^ 52)) ≡ p
-    sum p h = omega arith
+-- ---- a value whose exponent's field is k + 1 is its digits, k times doubled
+halves : (f : Format) → (ones f - 1) / 2 - 2 ≡ emax f - 2
+halves binary32 = refl
+halves binary64 = refl
 
--- a pattern scaled to a value from 1 to 4: the digits and the field's last one, moved up, with the field 1023 or 1024
-scaled_at : (f : Format) (b : ℕ) → T (not (nan_bits binary64 ((b % (hid f * 2) + hid f) % (hid f * 2) * (0x10_0000_0000_0000 / hid f) + 0x3ff0_0000_0000_0000)))
-scaled_at binary32 b = low_pattern ((b % 2 ^ 24 + 2 ^ 23) % 2 ^ 24 * 2 ^ 29 + 0x3ff0_0000_0000_0000) (omega arith) (omega arith)
-scaled_at binary64 b = low_pattern ((b % 2 ^ 53 + 2 ^ 52) % 2 ^ 53 * 1 + 0x3ff0_0000_0000_0000) (omega arith) (omega arith)
+parts : (f : Format) (p k : ℕ) → p / hid f ≡ k + 1 → p ≡ 0 + (k * hid f + (p % hid f + hid f))
+parts binary32 p k e = omega arith
+parts binary64 p k e = omega arith
 
-pub scaled_pattern : {f : Format} {S H O : ℕ} → Weights f S H O → (b : ℕ) → T (not (nan_bits binary64 ((b % (H * 2) + H) % (H * 2) * (0x10_0000_0000_0000 / H) + 0x3ff0_0000_0000_0000)))
-scaled_pattern {f} w b =
-    at_weights w (λ (s h o : ℕ). T (not (nan_bits binary64 ((b % (h * 2) + h) % (h * 2) * (0x10_0000_0000_0000 / h) + 0x3ff0_0000_0000_0000)))) (scaled_at f b)
+digits_in : (f : Format) (p : ℕ) → (hid f ≤ p % hid f + hid f) × (p % hid f + hid f < 2 ^ prec f)
+digits_in binary32 p = (omega arith, omega arith)
+digits_in binary64 p = (omega arith, omega arith)
 
--- ---- a value from 1 to 2 is put together from its own digits
-pub own_digits : (g : Float) (q : ℕ) → T (fits binary64 g) → to_bits binary64 g ≡ 1022 * 2 ^ 52 + q → 2 ^ 52 ≤ q → q < 2 ^ 53 → g ≡ units binary64 false q 1022
-own_digits g q h e lo hi =
-    sym (of_bits-to_bits binary64 g h)
-    ∙ ap (λ (n : ℕ). of_bits binary64 n) (e ∙ sym (zero-add (1022 * 2 ^ 52 + q)))
-    ∙ of_pattern binary64 false q 1022 (le_of_lt hi) (λ _. lo) (omega arith)
+room : (f : Format) (e : ℕ) → e < ones f → (e + (emax f - 2)) / 2 < 2 * emax f
+room binary32 e h = omega arith
+room binary64 e h = omega arith
+
+own_digits : (f : Format) (x : Float) (k : ℕ) → T (fits f x) → to_bits f x / hid f ≡ k + 1 → k < 2 * emax f → x ≡ units f false (to_bits f x % hid f + hid f) k
+own_digits f x k h e l =
+    let d = digits_in f (to_bits f x) in
+    sym (of_bits-to_bits f x h) ∙ ap (of_bits f) (parts f (to_bits f x) k e) ∙ of_pattern f false (to_bits f x % hid f + hid f) k (le_of_lt d.1) (λ _. d.0) l
+
+-- ---- a guess y at the root of x whose digits pass the test is the root
+digits_few : (f : Format) (p : ℕ) → ((p % hid f + hid f) * 2 ^ (1 - p / hid f % 2) < 2 ^ 54) × (p % hid f + hid f < 2 ^ 53)
+digits_few binary32 p = let d = doubled (p % 2 ^ 23 + 2 ^ 23) (p / 2 ^ 23 % 2) (omega arith) in (omega arith, omega arith)
+digits_few binary64 p = let d = doubled (p % 2 ^ 52 + 2 ^ 52) (p / 2 ^ 52 % 2) (omega arith) in (omega arith, omega arith)
+
+module _ {f : Format} {S H O : ℕ} (w : Weights f S H O) where
+  pub few_digits : (b g : ℕ) {n : ℕ} → n ≡ (b % hid f + hid f) * 2 ^ (1 - b / hid f % 2) → (n < 2 ^ 54) × (g % H + H < 2 ^ 53)
+  few_digits b g e = (subst (λ (n : ℕ). n < 2 ^ 54) (sym e) (digits_few f b).0, at_weights w (λ (s h o : ℕ). g % h + h < 2 ^ 53) (digits_few f g).1)
+
+  module _ {x y : Float} {b g : ℕ} (v : Patterned f x b) (u : Patterned f y g) where
+    abbrev Passed : (S H O b g : ℕ) → Type 0
+    Passed s h o b g = (n : ℕ) → (b / h ≡ 0 → ⊥) → b / h < o → g / h ≡ (b / h + ((o - 1) / 2 - 2)) / 2 + 1 → n ≡ (b % hid f + hid f) * 2 ^ (1 - b / hid f % 2) → IsNearest (n * hid f) (g % h + h) → y ≡ sqrt_of f x
+
+    passed : Passed (top f) (hid f) (ones f) (to_bits f x) (to_bits f y)
+    passed n z o k e h =
+        let d = digits_in f (to_bits f y) in
+        own_digits f y ((to_bits f x / hid f + (emax f - 2)) / 2) u.held (k ∙ ap (λ (i : ℕ). (to_bits f x / hid f + i) / 2 + 1) (halves f)) (room f (to_bits f x / hid f) o)
+        ∙ quick_root f x v.held n (to_bits f y % hid f + hid f) z o e h d.0 d.1
+
+    pub near_root : Passed S H O b g
+    near_root =
+        at_weights w (λ (s h o : ℕ). Passed s h o b g)
+        (subst (λ (p : ℕ). Passed (top f) (hid f) (ones f) p g) (sym v.pattern) (subst (λ (p : ℕ). Passed (top f) (hid f) (ones f) (to_bits f x) p) (sym u.pattern) passed))

@@ -1,4 +1,4 @@
--- `float_arctangent::atan` meets its contract: three halvings and the sum, as the definition has them, whatever is guessed. Assumes nothing.
+-- `float_arctangent::atan` meets its contract: three halvings and the sum, as the definition has them. Assumes nothing.
 use lib.Ieee.{of_bits}
 use Rattle.float_arctangent.specs.Arctangent.{eightfold_of, atan_of}
 use Rattle.float_arctangent.proofs.Coefficients.{table}
