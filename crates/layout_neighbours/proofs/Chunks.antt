@@ -1,60 +1,77 @@
--- Laws of the walk over the triplets, three point numbers at a time. Assumes nothing.
-use Prim.Native.Nat.{ℕ, ◌+◌, ◌-◌, ◌*◌, ◌≤◌, ◌<◌}
+-- Laws of the walk over the triplets, three point numbers at a time: what is left leads on to what all lead to. Assumes nothing.
+use Prim.Native.Nat.{ℕ, suc, ◌+◌, ◌<◌}
 use mathlib.Core.Path.{◌≡◌, refl, sym, ap, ◌∙◌}
-use mathlib.Core.List.{List, ◌++◌}
+use mathlib.Core.List.{List, [], ◌∷◌, ◌++◌}
 use native.Mathlib.Omega.{arith}
-use lib.ListN.{length, get_or, take, drop, length-append, length-drop}
-use lib.Seq.{get_or-take, length-take-le, take_at, drop_at, drop-drop}
-use Rattle.lists.specs.Lists.{part}
-use Rattle.lists.proofs.Parts.{part_three, get_d_part}
-use Rattle.layout_neighbours.specs.Neighbours.{pass, across}
-use Rattle.layout_neighbours.specs.Inner.Flat.{triples_in}
-use Rattle.layout_neighbours.specs.Inner.Search.{Arrays, Leads, Points}
-use Rattle.layout_neighbours.proofs.Passes.{pass_none, pass_more}
+use lib.ListN.{length, length-append, get_or-append}
+use lib.Seq.{get_or-append-add}
+use Rattle.layout_neighbours.specs.Neighbours.{Reach, pass, across}
+use Rattle.layout_neighbours.specs.Inner.Flat.{triples_of}
+use Rattle.layout_neighbours.specs.Inner.Search.{Arrays, Holds, Leads, Points}
+use Rattle.layout_neighbours.proofs.Sound.{Low}
 
--- some triplets are done, and what is left begins with the next
-pub record Walked (out idx : List ℕ) (tris : ℕ) (rest : List ℕ) (size : ℕ) (before after : Arrays) : Type 0 where
-  pub done : ℕ
-  pub within : done ≤ tris
+-- ---- the triplets of point numbers
+
+triples_more : (t more : List ℕ) → length t ≡ 3 → triples_of (t ++ more) ≡ t ∷ triples_of more
+unfolding triples_of
+triples_more [] more h = absurd (omega arith)
+triples_more (i ∷ []) more h = absurd (omega arith)
+triples_more (i ∷ (j ∷ [])) more h = absurd (omega arith)
+triples_more (i ∷ (j ∷ (k ∷ []))) more h = refl
+triples_more (i ∷ (j ∷ (k ∷ (p ∷ l)))) more h = absurd (omega arith)
+
+triples_none : (l : List ℕ) → length l < 3 → triples_of l ≡ []
+unfolding triples_of
+triples_none [] h = refl
+triples_none (i ∷ []) h = refl
+triples_none (i ∷ (j ∷ [])) h = refl
+triples_none (i ∷ (j ∷ (k ∷ l))) h = absurd (omega arith)
+
+pub low_triples : (idx : List ℕ) (nreal : ℕ) → Points idx nreal → Low nreal (triples_of idx)
+unfolding triples_of
+low_triples [] nreal ps = tt
+low_triples (i ∷ []) nreal ps = tt
+low_triples (i ∷ (j ∷ [])) nreal ps = tt
+low_triples (i ∷ (j ∷ (k ∷ l))) nreal ps = (
+  (ps 0 (omega arith), (ps 1 (omega arith), (ps 2 (omega arith), tt))),
+  low_triples l nreal (λ n h. ps (suc (suc (suc n))) (omega arith)),
+)
+
+-- ---- the walk
+
+-- some triplets are done, and the rest is left
+pub record Walked (slots idx rest : List ℕ) (size : ℕ) (before after : Arrays) : Type 0 where
   pub three : size ≡ 3
-  pub left : rest ≡ drop (done * 3) (take (tris * 3) idx)
-  pub leads : Leads (length out) (pass out (triples_in done idx)) before after
+  pub low : Points rest (length slots)
+  pub leads : (r : Reach) → Holds (length slots) r before → (q : Reach) × Holds (length slots) q after × (pass slots (triples_of rest) q ≡ pass slots (triples_of idx) r)
 
-module _ {out idx : List ℕ} {tris : ℕ} {rest : List ℕ} {size : ℕ} {before : Arrays} where
-  pub walked_start : size ≡ 3 → rest ≡ take (tris * 3) idx → Walked out idx tris rest size before before
-  walked_start e l = record { done = 0; within = omega arith; three = e; left = l; leads = λ r h. rw (pass_none out idx r) h }
+module _ {slots idx rest : List ℕ} {size : ℕ} {before : Arrays} where
+  pub walked_start : Points idx (length slots) → size ≡ 3 → rest ≡ idx → Walked slots idx rest size before before
+  walked_start ps e l = rw l (record { three = e; low = ps; leads = λ r h. (r, h, refl) })
 
-  module _ {after : Arrays} (ps : Points idx tris (length out)) (w : Walked out idx tris rest size before after) where
-    long : length rest ≡ tris * 3 - w.done * 3
-    long = ap length w.left ∙ length-drop (w.done * 3) (take (tris * 3) idx) ∙ ap (λ (k : ℕ). k - w.done * 3) (length-take-le (tris * 3) idx ps.long)
-
+  module _ {after : Arrays} (w : Walked slots idx rest size before after) where
     -- all are done
-    pub walked_all : length rest < size → Leads (length out) (pass out (triples_in tris idx)) before after
-    walked_all h = let e : w.done ≡ tris = omega (arith, long, w.within, w.three) in rw (← e) w.leads
+    pub walked_all : length rest < size → Leads (length slots) (pass slots (triples_of idx)) before after
+    unfolding pass
+    walked_all h r k =
+        let q = w.leads r k in
+        let e : q.0 ≡ pass slots (triples_of idx) r = sym (ap (λ (ts : List (List ℕ)). pass slots ts q.0) (triples_none rest (omega (arith, w.three)))) ∙ q.2 in
+        rw (← e) q.1
 
     module _ (t more : List ℕ) (e : rest ≡ t ++ more) (n : length t ≡ size) where
-      next : w.done < tris
-      next = omega (arith, long, w.three, n, ap length e, length-append t more)
+      pub next_low : Points t (length slots)
+      next_low k h = let g = w.low k (omega (arith, ap length e, length-append t more)) in rw (e, get_or-append t more 0 k h) at g
 
-      pub chunk : t ≡ part 3 idx w.done
-      unfolding part
-      chunk =
-          let a : t ≡ part 3 (take (tris * 3) idx) w.done = sym (take_at t more 3 (n ∙ w.three)) ∙ ap (take 3) (sym e ∙ w.left) in
-          let h : w.done * 3 + 3 ≤ tris * 3 = omega (arith, next) in
-          let f : part 3 (take (tris * 3) idx) w.done ≡ part 3 idx w.done =
-          rw (part_three (take (tris * 3) idx) w.done 0 (omega (arith, length-take-le (tris * 3) idx ps.long)), part_three idx w.done 0 (omega (arith, ps.long)), get_or-take (tris * 3) idx (w.done * 3) 0 (omega arith), get_or-take (tris * 3) idx (w.done * 3 + 1) 0 (omega arith), get_or-take (tris * 3) idx (w.done * 3 + 2) 0 (omega arith)) refl in
-          a ∙ f
-
-      pub chunk_low : (k : ℕ) → k < 3 → get_or t k 0 < length out + 14
-      chunk_low k h =
-          let e : get_or t k 0 ≡ get_or idx (w.done * 3 + k) 0 = ap (λ (l : List ℕ). get_or l k 0) chunk ∙ get_d_part 3 idx w.done k 0 h in
-          rw e (ps.low (w.done * 3 + k) (omega (arith, next)))
-
-      pub walked_on : {size' : ℕ} {then : Arrays} → size' ≡ size → Leads (length out) (λ r. across out r t) after then → Walked out idx tris more size' before then
+      pub walked_on : {size' : ℕ} {then : Arrays} → size' ≡ size → Leads (length slots) (λ r. across slots r t) after then → Walked slots idx more size' before then
+      unfolding pass
       walked_on s leads = record {
-        done = w.done + 1;
-        within = omega (arith, next);
         three = s ∙ w.three;
-        left = sym (drop_at t more 3 (n ∙ w.three)) ∙ ap (drop 3) (sym e ∙ w.left) ∙ drop-drop 3 (w.done * 3) (take (tris * 3) idx) ∙ ap (λ (k : ℕ). drop k (take (tris * 3) idx)) (let q : w.done * 3 + 3 ≡ (w.done + 1) * 3 = omega arith in q);
-        leads = λ r h. rw (pass_more out idx r w.done) (rw (← chunk) (leads _ (w.leads r h)));
+        low = λ k h.
+            let g = w.low (length t + k) (omega (arith, ap length e, length-append t more)) in
+            rw (e, get_or-append-add t more k 0) at g;
+        leads = λ r h.
+            let q = w.leads r h in
+            let f : pass slots (triples_of more) (across slots q.0 t) ≡ pass slots (triples_of idx) r =
+            sym (ap (λ (ts : List (List ℕ)). pass slots ts q.0) (ap triples_of e ∙ triples_more t more (n ∙ w.three))) ∙ q.2 in
+            (across slots q.0 t, leads q.0 q.1, f);
       }

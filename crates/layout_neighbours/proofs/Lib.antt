@@ -2,7 +2,6 @@ pub mod Among
 pub mod Reaches
 pub mod Holds
 pub mod Triplet
-pub mod Passes
 pub mod Chunks
 pub mod Sound
 pub mod Left

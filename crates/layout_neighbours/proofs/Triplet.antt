@@ -1,50 +1,56 @@
--- Laws of a triplet: its three points by their places, and its test by the array of visited points. Assumes nothing.
-use Prim.Native.Nat.{ℕ, ◌+◌, ◌<◌}
-use mathlib.Core.Path.{◌≡◌, sym, ap, ◌∙◌}
+-- Laws of a triplet: its test by the array of visited points, and its points one after the other. Assumes nothing.
+use Prim.Native.Nat.{ℕ, suc, ◌+◌, ◌≤◌, ◌<◌}
+use mathlib.Core.Path.{◌≡◌, refl, sym, ap, ap₂, ◌∙◌}
 use mathlib.Core.Bool.{Bool, true, false, ◌||◌}
 use mathlib.Core.List.{List, [], ◌∷◌, foldl}
+use native.Mathlib.Numerals.{add-one}
 use native.Mathlib.Omega.{arith}
-use lib.ListN.{length, get_or}
+use Rattle.std.specs.List.{list_any}
+use lib.ListN.{length, get_or, take}
+use lib.Seq.{take-suc, take_all}
 use Rattle.lists.specs.Lists.{any, member}
-use Rattle.lists.proofs.Parts.{three_places}
-use Rattle.lists.proofs.Tests.{or_three, cond_yes, cond_no}
+use Rattle.lists.proofs.Collect.{foldl_snoc}
+use Rattle.lists.proofs.Tests.{cond_yes, cond_no}
 use Rattle.layout_neighbours.specs.Neighbours.{Reach, reach, across}
-use Rattle.layout_neighbours.specs.Inner.Search.{Arrays, Holds, Slots}
+use Rattle.layout_neighbours.specs.Inner.Search.{Arrays, Holds, Leads, Slots, Points}
 
--- the points of the triplet t
-abbrev pub first : List ℕ → ℕ
-first t = get_or t 0 0
+-- std's test of a list is the definition's
+pub any_listed : {A : Type 0} (f : A → Bool) (l : List A) → list_any f l ≡ any f l
+unfolding any
+any_listed f [] = refl
+any_listed f (a ∷ l) = ap (λ b. f a || b) (any_listed f l)
 
-abbrev pub second : List ℕ → ℕ
-second t = get_or t 1 0
+-- one of the points is marked
+abbrev pub marked_in : List Bool → List ℕ → Bool
+marked_in visited t = any (λ p. get_or visited p false) t
 
-abbrev pub third : List ℕ → ℕ
-third t = get_or t 2 0
+module _ {out : List ℕ} (s : Slots out) {r : Reach} {a : Arrays} (h : Holds (length out) r a) where
+  meets : (t : List ℕ) → Points t (length out) → any (λ p. member p r.visited) t ≡ marked_in a.visited t
+  unfolding any
+  meets [] ps = refl
+  meets (p ∷ t) ps =
+      ap₂ ◌||◌ (sym (h.marks p (omega (arith, ps 0 (omega arith), s.few)))) (meets t (λ k g. ps (suc k) (omega arith)))
 
--- one of them is marked
-abbrev pub meets : List ℕ → Arrays → Bool
-meets t a = get_or a.visited (first t) false || get_or a.visited (second t) false || get_or a.visited (third t) false
-
-module _ {out : List ℕ} (t : List ℕ) (long : length t ≡ 3) (ps : (k : ℕ) → k < 3 → get_or t k 0 < length out + 14) (s : Slots out) where
-  -- the points are among those that the arrays hold
-  low : (k : ℕ) → k < 3 → get_or t k 0 < 54
-  low k h = omega (arith, ps k h, s.few)
-
-  three : t ≡ first t ∷ second t ∷ third t ∷ []
-  three = sym (three_places t 0 long)
-
-  module _ {r : Reach} {a : Arrays} (h : Holds (length out) r a) where
-    test : any (λ p. member p r.visited) t ≡ meets t a
-    unfolding any
-    test =
-        ap (any (λ p. member p r.visited)) three
-        ∙ rw (h.marks (first t) (low 0 (omega arith)), h.marks (second t) (low 1 (omega arith)), h.marks (third t) (low 2 (omega arith)))
-        (or_three (member (first t) r.visited) (member (second t) r.visited) (member (third t) r.visited))
-
-    pub across_meets : meets t a ≡ true → across out r t ≡ reach out (reach out (reach out r (first t)) (second t)) (third t)
+  module _ (t : List ℕ) (ps : Points t (length out)) where
+    pub across_meets : marked_in a.visited t ≡ true → across out r t ≡ foldl (reach out) r t
     unfolding across
-    across_meets e = cond_yes _ _ (test ∙ e) ∙ ap (foldl (reach out) r) three
+    across_meets e = cond_yes _ _ (meets t ps ∙ e)
 
-    pub across_misses : meets t a ≡ false → across out r t ≡ r
+    pub across_misses : marked_in a.visited t ≡ false → across out r t ≡ r
     unfolding across
-    across_misses e = cond_no _ _ (test ∙ e)
+    across_misses e = cond_no _ _ (meets t ps ∙ e)
+
+-- ---- the points that came so far
+
+abbrev pub Reached : List ℕ → List ℕ → ℕ → Arrays → Arrays → Type 0
+Reached out t n before after = Leads (length out) (λ r. foldl (reach out) r (take n t)) before after
+
+module _ (out t : List ℕ) (n : ℕ) {before after : Arrays} (d : Reached out t n before after) where
+  pub reached_more : {then : Arrays} → n < length t → Leads (length out) (λ r. reach out r (get_or t n 0)) after then → Reached out t (n + 1) before then
+  reached_more h leads r k =
+      let e : foldl (reach out) r (take (n + 1) t) ≡ reach out (foldl (reach out) r (take n t)) (get_or t n 0) =
+      ap (λ (i : ℕ). foldl (reach out) r (take i t)) (add-one n) ∙ ap (foldl (reach out) r) (take-suc t n 0 h) ∙ foldl_snoc (reach out) r (take n t) (get_or t n 0) in
+      rw e (leads _ (d r k))
+
+  pub reached_all : length t ≤ n → Leads (length out) (λ r. foldl (reach out) r t) before after
+  reached_all h r k = rw (ap (foldl (reach out) r) (take_all n t h)) at (d r k)

@@ -2,10 +2,10 @@
 // Lengths of arrays: 40 speakers (document 01, refusal 2), 14 imaginary points (vbap.rs line 60), 54 points in all; 80 triplets (refusal 4) of three point numbers are 240, 14 lists of 40 slots are 560.
 #![tactic(auto)]
 
-ghost use Rattle.std.specs.Prelude.{◌≡◌, ℕ, slice_index, ◌+◌, ◌-◌, ◌*◌, ◌≤◌, ◌<◌, length, take, drop, ◌++◌};
-ghost use Rattle.lists.specs.Lists.{member, part, filled};
+ghost use Rattle.std.specs.Prelude.{◌≡◌, ℕ, false, slice_index, slice_index_or, ◌+◌, ◌-◌, ◌*◌, ◌≤◌, ◌<◌, length, take, drop, ◌++◌};
+ghost use Rattle.lists.specs.Lists.{any, member, filled};
 ghost use Rattle.layout_neighbours.specs.Neighbours.{reach, across, pass, neighbours_of};
-ghost use Rattle.layout_neighbours.specs.Inner.Flat.{triples_in, neighbours_in, Numbered};
+ghost use Rattle.layout_neighbours.specs.Inner.Flat.{triples_of, neighbours_in, Numbered};
 ghost use Rattle.layout_neighbours.specs.Inner.Search.{Held, Leads};
 
 // How many neighbours each of the fourteen imaginary points has, and their slots: neighbour j of the k-th at k * 40 + j.
@@ -24,17 +24,14 @@ struct Search {
     found: usize,
 }
 
-// What the search goes over: the point numbers of the triplets, three each; how many triplets there are; the slots of the real points.
-// The count stays beside the numbers: a slice cut at it would have each clause tell the triplets by a third of its length.
+// What the search goes over: the point numbers of the triplets, three each, and the slots of the real points.
 #[derive(Clone, Copy)]
 struct Given<'a> {
     idx: &'a [u8],
-    tris: usize,
-    out: &'a [u8],
-    ghost long: { tris * 3 ≤ length idx.now },
-    ghost points: { (k : ℕ) → k < tris * 3 → slice_index idx.now k < length out.now + 14 },
-    ghost few: { length out.now ≤ 40 },
-    ghost slots: { (k : ℕ) → k < length out.now → slice_index out.now k < 40 },
+    slots: &'a [u8],
+    ghost points: { (k : ℕ) → k < length idx.now → slice_index idx.now k < length slots.now + 14 },
+    ghost few: { length slots.now ≤ 40 },
+    ghost low: { (k : ℕ) → k < length slots.now → slice_index slots.now k < 40 },
 }
 
 // Whether the slot is among those.
@@ -47,13 +44,13 @@ fn contains(slots: &[u8], slot: u8) -> bool
 // A point of a triplet that holds a visited one: a real point's slot is a neighbour; an imaginary point is visited while there is no neighbour.
 // What is held is asked of each step: it speaks of the number of the real points, which a search does not keep.
 fn reach(g: Given, p: usize, s: &mut Search)
-    requires p_bound { p < length g.out.now + 14 }
-    requires held { Held (length g.out.now) s.old }
-    ensures { Leads (length g.entry.out.now) (λ r. reach g.entry.out.now r p) s.old s.new }
+    requires p_bound { p < length g.slots.now + 14 }
+    requires held { Held (length g.slots.now) s.old }
+    ensures { Leads (length g.entry.slots.now) (λ r. reach g.entry.slots.now r p) s.old s.new }
 {
     let n = s.found;
-    if p < g.out.len() {
-        let slot = g.out[p];
+    if p < g.slots.len() {
+        let slot = g.slots[p];
         if contains(&s.nbrs[..n], slot) {
             return;
         }
@@ -71,38 +68,42 @@ fn reach(g: Given, p: usize, s: &mut Search)
     s.seen += 1;
 }
 
+// Whether one of a triplet's points is visited.
+fn is_met(visited: &[bool; 54], t: &[u8]) -> bool
+    requires { (k : ℕ) → k < length t.now → slice_index t.now k < 54 }
+    ensures { result ≡ any (λ p. slice_index_or visited.now p false) t.now }
+{
+    t.iter().any(|p| visited[*p as usize])
+}
+
 // The triplet t, where one of its points is visited.
 fn across(g: Given, t: &[u8], s: &mut Search)
-    requires long { length t.now ≡ 3 }
-    requires low { (k : ℕ) → k < 3 → slice_index t.now k < length g.out.now + 14 }
-    requires held { Held (length g.out.now) s.old }
-    ensures { Leads (length g.entry.out.now) (λ r. across g.entry.out.now r t.now) s.old s.new }
+    requires low { (k : ℕ) → k < length t.now → slice_index t.now k < length g.slots.now + 14 }
+    requires held { Held (length g.slots.now) s.old }
+    ensures { Leads (length g.entry.slots.now) (λ r. across g.entry.slots.now r t.now) s.old s.new }
 {
-    let i = t[0] as usize;
-    let j = t[1] as usize;
-    let k = t[2] as usize;
-    if s.visited[i] | s.visited[j] | s.visited[k] {
-        reach(g, i, s);
-        reach(g, j, s);
-        reach(g, k, s);
+    if is_met(&s.visited, t) {
+        for p in t {
+            reach(g, *p as usize, s);
+        }
     }
 }
 
 // All triplets, once.
 fn pass(g: Given, s: &mut Search)
-    requires { Held (length g.out.now) s.old }
-    ensures { Leads (length g.entry.out.now) (pass g.entry.out.now (triples_in g.entry.tris g.entry.idx.now)) s.old s.new }
+    requires { Held (length g.slots.now) s.old }
+    ensures { Leads (length g.entry.slots.now) (pass g.entry.slots.now (triples_of g.entry.idx.now)) s.old s.new }
 {
-    for t in g.idx[..g.tris * 3].chunks_exact(3) {
+    for t in g.idx.chunks_exact(3) {
         across(g, t, s);
     }
 }
 
 // Passes until there is a neighbour or nothing more was visited: the search at its end.
 fn neighbours_of(g: Given, p: usize) -> Search
-    requires { (length g.out.now ≤ p) × (p < length g.out.now + 14) }
-    ensures nbrs { result.nbrs ≡ filled 40 0 (neighbours_of g.entry.out.now (triples_in g.entry.tris g.entry.idx.now) p) }
-    ensures found { result.found ≡ length (neighbours_of g.entry.out.now (triples_in g.entry.tris g.entry.idx.now) p) }
+    requires { (length g.slots.now ≤ p) × (p < length g.slots.now + 14) }
+    ensures nbrs { result.nbrs ≡ filled 40 0 (neighbours_of g.entry.slots.now (triples_of g.entry.idx.now) p) }
+    ensures found { result.found ≡ length (neighbours_of g.entry.slots.now (triples_of g.entry.idx.now) p) }
 {
     let mut s = Search {
         visited: [false; 54],
@@ -129,21 +130,16 @@ fn store(all: &mut [u8; 560], k: usize, nbrs: &[u8; 40])
     all[k * 40..k * 40 + 40].copy_from_slice(nbrs);
 }
 
-// The neighbours of the imaginary points nreal to n - 1.
-// The point numbers and the slots come as the caller holds them, in a hull's and the active speakers' arrays with their counts (fixed memory); slices would move the cuts into each caller.
-pub fn neighbours(idx: &[u8; 240], tris: usize, out: &[u8; 40], nreal: usize, n: usize) -> ImagNbrs
-    requires { Numbered idx.now tris out.now nreal n }
-    ensures { result ≡ neighbours_in (take nreal out.now) (triples_in tris idx.now) (n - nreal) }
+// The neighbours of the imaginary points, of which there are imag: the numbers behind those of the real points, whose slots are given. The triplets are given by their point numbers, three each.
+pub fn neighbours(idx: &[u8], slots: &[u8], imag: usize) -> ImagNbrs
+    requires { Numbered idx.now slots.now imag }
+    ensures { result ≡ neighbours_in slots.now (triples_of idx.now) imag }
 {
-    let g = Given {
-        idx: &idx[..],
-        tris,
-        out: &out[..nreal],
-    };
+    let g = Given { idx, slots };
     let mut num_nbrs = [0u8; 14];
     let mut imag_nbrs = [0u8; 560];
-    for k in 0..n - nreal {
-        let s = neighbours_of(g, nreal + k);
+    for k in 0..imag {
+        let s = neighbours_of(g, slots.len() + k);
         store(&mut imag_nbrs, k, &s.nbrs);
         num_nbrs[k] = s.found as u8;
     }

@@ -1,11 +1,23 @@
--- The array of visited points tells whether the triplet holds one; then its three points follow each other, as in the definition's fold. Assumes nothing.
+use Rattle.std.proofs.Common.{sym, ◌∙◌, arith}
 use Rattle.layout_neighbours.proofs.Holds.{slots}
-use Rattle.layout_neighbours.proofs.Triplet.{across_meets, across_misses}
+use Rattle.layout_neighbours.proofs.Triplet.{across_meets, across_misses, reached_more, reached_all}
 use Rattle.layout_neighbours.proofs.across.Goals as goal
 
-pub returns-then-s-i : goal.returns-then-s-i
-returns-then-s-i c r h =
-    rw (across_meets _ c.requires.long c.requires.low (slots c.args.g.few c.args.g.slots) h c.if-s-i.true) (c.reach-then-s-i-2.ensures _ (c.reach-then-s-i.ensures _ (c.reach.ensures r h)))
+pub is_met-requires : goal.is_met-requires
+is_met-requires c k h = omega (arith, c.requires.low k h, c.args.g.few)
 
-pub returns-else-s-i : goal.returns-else-s-i
-returns-else-s-i c r h = rw (across_misses _ c.requires.long c.requires.low (slots c.args.g.few c.args.g.slots) h c.if-s-i.false) h
+pub loop-p-init : goal.loop-p-init
+loop-p-init c r h = h
+
+pub reach-requires-clause-held : goal.reach-requires-clause-held
+reach-requires-clause-held c = (_, c.loop-p.invariant _ c.requires.held.1)
+
+pub loop-p-preserved : goal.loop-p-preserved
+loop-p-preserved c = reached_more c.args.g.slots.now c.args.t.now c.loop-p.p-index c.loop-p.invariant c.loop-p-test.true c.reach.ensures
+
+pub returns-after-loop-p : goal.returns-after-loop-p
+returns-after-loop-p c r h =
+    rw (across_meets (slots c.args.g.few c.args.g.low) h c.args.t.now c.requires.low (sym c.is_met.ensures ∙ c.if-is_met.true)) (reached_all c.args.g.slots.now c.args.t.now c.loop-p.p-index c.loop-p.invariant c.loop-p-test.false r h)
+
+pub returns-else-is_met : goal.returns-else-is_met
+returns-else-is_met c r h = rw (across_misses (slots c.args.g.few c.args.g.low) h c.args.t.now c.requires.low (sym c.is_met.ensures ∙ c.if-is_met.false)) h

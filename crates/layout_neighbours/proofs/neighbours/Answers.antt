@@ -1,5 +1,6 @@
-use Rattle.std.proofs.Common.{◌≡◌, ◌+◌, ◌<◌, length, take, arith}
-use Rattle.layout_neighbours.proofs.Left.{real_long, slots_of_lem}
+use Rattle.std.proofs.Common.{◌<◌, refl, arith}
+use Rattle.layout_neighbours.specs.Inner.Search.{Slots}
+use Rattle.layout_neighbours.proofs.Holds.{slots}
 use Rattle.layout_neighbours.proofs.Laid.{nums_none, rows_none, count_few, turn_nums, turn_imag}
 use Rattle.layout_neighbours.proofs.neighbours.Goals as goal
 
@@ -8,16 +9,14 @@ loop-k-init c = (nums_none _ _, rows_none _ _)
 
 pub overflow_cast-num_nbrs : goal.overflow_cast-num_nbrs
 overflow_cast-num_nbrs c =
-    let s = slots_of_lem c.requires (omega arith) in
+    let s : Slots c.args.slots.now = slots c.requires.real c.requires.low in
     let h : c.loop-k.k < 14 = omega arith in
-    let e : c.args.nreal + c.loop-k.k ≡ length (take c.args.nreal c.args.out.now) + c.loop-k.k = omega (arith, real_long c.requires (omega arith)) in
-    omega (arith, count_few s _ _ h _ e c.neighbours_of-s.result c.neighbours_of-s.ensures.nbrs c.neighbours_of-s.ensures.found)
+    omega (arith, count_few s _ _ h _ refl c.neighbours_of-s.result c.neighbours_of-s.ensures.nbrs c.neighbours_of-s.ensures.found)
 
 pub loop-k-preserved : goal.loop-k-preserved
 loop-k-preserved c =
-    let s = slots_of_lem c.requires (omega arith) in
-    let h : c.loop-k.k < 14 = omega arith in
-    let e : c.args.nreal + c.loop-k.k ≡ length (take c.args.nreal c.args.out.now) + c.loop-k.k = omega (arith, real_long c.requires (omega arith)) in (
-      turn_nums s _ _ h _ e c.neighbours_of-s.result c.neighbours_of-s.ensures.nbrs c.neighbours_of-s.ensures.found c.loop-k.invariant.0,
-      turn_imag s _ _ h _ e c.neighbours_of-s.result c.neighbours_of-s.ensures.nbrs c.neighbours_of-s.ensures.found c.loop-k.invariant.1 c.store.ensures,
+    let s : Slots c.args.slots.now = slots c.requires.real c.requires.low in
+    let h : c.loop-k.k < 14 = omega arith in (
+      turn_nums s _ _ h _ refl c.neighbours_of-s.result c.neighbours_of-s.ensures.nbrs c.neighbours_of-s.ensures.found c.loop-k.invariant.0,
+      turn_imag s _ _ h _ refl c.neighbours_of-s.result c.neighbours_of-s.ensures.nbrs c.neighbours_of-s.ensures.found c.loop-k.invariant.1 c.store.ensures,
     )

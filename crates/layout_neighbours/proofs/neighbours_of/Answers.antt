@@ -1,6 +1,4 @@
 use Rattle.std.proofs.Common.{arith}
-use Rattle.layout_neighbours.proofs.Holds.{slots}
-use Rattle.layout_neighbours.proofs.Passes.{points}
 use Rattle.layout_neighbours.proofs.Left.{left_start, left_nbrs, left_found, left_less, left_on}
 use Rattle.layout_neighbours.proofs.neighbours_of.Goals as goal
 
@@ -8,15 +6,15 @@ pub loop-s-init : goal.loop-s-init
 loop-s-init c = left_start _ _ _ c.args.p c.requires.0 c.requires.1 c.args.g.few
 
 pub returns-then-s-seen-clause-nbrs : goal.returns-then-s-seen-clause-nbrs
-returns-then-s-seen-clause-nbrs c = left_nbrs (points c.args.g.long c.args.g.points) (slots c.args.g.few c.args.g.slots) c.loop-s.invariant c.pass.ensures c.if-s-seen.true
+returns-then-s-seen-clause-nbrs c = left_nbrs _ _ c.args.g.points c.loop-s.invariant c.pass.ensures c.if-s-seen.true
 
 pub returns-then-s-seen-clause-found : goal.returns-then-s-seen-clause-found
-returns-then-s-seen-clause-found c = left_found (points c.args.g.long c.args.g.points) (slots c.args.g.few c.args.g.slots) c.loop-s.invariant c.pass.ensures c.if-s-seen.true
+returns-then-s-seen-clause-found c = left_found _ _ c.args.g.points c.loop-s.invariant c.pass.ensures c.if-s-seen.true
 
 pub loop-s-smaller : goal.loop-s-smaller
 loop-s-smaller c =
-    omega (arith, left_less (points c.args.g.long c.args.g.points) (slots c.args.g.few c.args.g.slots) c.loop-s.invariant c.pass.ensures c.if-s-seen.false)
+    omega (arith, left_less _ _ c.args.g.points c.loop-s.invariant c.pass.ensures c.if-s-seen.false)
 
 pub loop-s-preserved : goal.loop-s-preserved
 loop-s-preserved c =
-    left_on (points c.args.g.long c.args.g.points) (slots c.args.g.few c.args.g.slots) c.loop-s.invariant c.pass.ensures c.if-s-seen.false
+    left_on _ _ c.args.g.points c.loop-s.invariant c.pass.ensures c.if-s-seen.false

@@ -1,13 +1,16 @@
 -- Document 01, "What to write where" (triplet numbers and neighbours as arrays by value), and "Layout" ("Places and counts of a layout that its kind doesn't reach hold 0"): the neighbours laid flat. Source lines 402 to 430. Assumes nothing.
-use Rattle.std.specs.Prelude.{ℕ, ◌+◌, ◌*◌, ◌≤◌, ◌<◌, length, get_or}
-use mathlib.Core.List.{List, [], map, flat_map}
-use Rattle.lists.specs.Lists.{from, range, part, filled}
+use Rattle.std.specs.Prelude.{ℕ, ◌+◌, ◌≤◌, ◌<◌, length, get_or}
+use mathlib.Core.List.{List, [], ◌∷◌, map, flat_map}
+use Rattle.lists.specs.Lists.{from, filled}
 use Rattle.layout_neighbours.specs.Neighbours.{neighbours_of}
 use Rattle.layout_neighbours.specs.declared.ImagNbrs.{ImagNbrs}
 
--- the first point numbers of a flat array, three a triplet
-unfoldable pub triples_in : ℕ → List ℕ → List (List ℕ)
-triples_in tris idx = map (part 3 idx) (range tris)
+-- the triplets of a flat array, three point numbers each; one or two numbers behind them are none
+unfoldable pub triples_of : List ℕ → List (List ℕ)
+triples_of (i ∷ (j ∷ (k ∷ l))) = (i ∷ j ∷ k ∷ []) ∷ triples_of l
+triples_of (i ∷ (j ∷ [])) = []
+triples_of (i ∷ []) = []
+triples_of [] = []
 
 -- the neighbours of the m imaginary points, which follow the real ones: neighbour j of the k-th at k * 40 + j. Origin of 14: MAX_IMAGINARY, vbap.rs line 60; of 40: document 01, refusal 2, at most 40 speakers.
 unfoldable pub neighbours_in : List ℕ → List (List ℕ) → ℕ → ImagNbrs
@@ -18,11 +21,9 @@ neighbours_in out tris m =
       imag_nbrs = flat_map (filled 40 0) (filled 14 [] l);
     }
 
--- what `neighbours` asks: n points, the first nreal of them real, with slots below 40; at most 80 triplets, whose point numbers are below n
-pub record Numbered (idx : List ℕ) (tris : ℕ) (out : List ℕ) (nreal n : ℕ) : Type 0 where
-  pub few : tris ≤ 80
-  pub real : nreal ≤ 40
-  pub within : nreal ≤ n
-  pub imaginary : n ≤ nreal + 14
-  pub points : (k : ℕ) → k < tris * 3 → get_or idx k 0 < n
-  pub slots : (k : ℕ) → k < nreal → get_or out k 0 < 40
+-- what `neighbours` asks: at most 40 slots, each below 40, and point numbers below the real and the imaginary points together
+pub record Numbered (idx slots : List ℕ) (imag : ℕ) : Type 0 where
+  pub real : length slots ≤ 40
+  pub imaginary : imag ≤ 14
+  pub points : (k : ℕ) → k < length idx → get_or idx k 0 < length slots + imag
+  pub low : (k : ℕ) → k < length slots → get_or slots k 0 < 40

@@ -1,5 +1,5 @@
 -- How the arrays of the search hold its state (document 01, "Forms of vbap.rs that need another": `visited` is an array filled with a start value). Assumes nothing.
-use Rattle.std.specs.Prelude.{ℕ, ◌+◌, ◌*◌, ◌≤◌, ◌<◌, ◌≡◌, true, false, List, length, get_or}
+use Rattle.std.specs.Prelude.{ℕ, ◌+◌, ◌≤◌, ◌<◌, ◌≡◌, true, false, List, length, get_or}
 use Rattle.lists.specs.Lists.{Once, member, filled}
 use Rattle.layout_neighbours.specs.Neighbours.{Reach}
 use Rattle.layout_neighbours.specs.declared.Search.{Search}
@@ -37,7 +37,6 @@ pub record Slots (out : List ℕ) : Type 0 where
   pub few : length out ≤ 40
   pub low : (k : ℕ) → k < length out → get_or out k 0 < 40
 
--- triplets whose points are real or among the fourteen after those
-pub record Points (idx : List ℕ) (tris nreal : ℕ) : Type 0 where
-  pub long : tris * 3 ≤ length idx
-  pub low : (k : ℕ) → k < tris * 3 → get_or idx k 0 < nreal + 14
+-- point numbers that are real or among the fourteen after those
+abbrev pub Points : List ℕ → ℕ → Type 0
+Points idx nreal = (k : ℕ) → k < length idx → get_or idx k 0 < nreal + 14
