@@ -1,14 +1,14 @@
 // Imaginary speakers: poles and candidates, added until the hull is closed.
-// Lengths of arrays: 40 directions (document 01, refusal 2) and 14 imaginary points (vbap.rs line 60) are 54 points; 40 directions of three numbers each are 120.
+// Lengths of arrays: 40 directions (document 01, refusal 2) and 14 imaginary points (vbap.rs line 60) are 54 points.
 #![tactic(auto)]
 
-ghost use Rattle.std.specs.Prelude.{◌≡◌, [], ◌+◌, ◌≤◌, ◌<◌, take};
-ghost use Rattle.vector.specs.Vector.{points_in};
+ghost use Rattle.std.specs.Prelude.{◌≡◌, [], ◌+◌, ◌≤◌, ◌<◌, length, take};
+ghost use Rattle.vector.specs.Speakers.{dirs_of};
 ghost use Rattle.layout_closing.specs.Closing.{nearest_product, passed_over, with_pole, better, candidate_of};
 ghost use Rattle.layout_closing.specs.Inner.Flat.{best_in, found_in, wins_by, ended_in};
 
 use layout_hull::Hull;
-use vector::MAX_IMAGINARY;
+use vector::{MAX_IMAGINARY, Speaker};
 
 // What the closing ends with: how many imaginary points there are, poles counted; the hull of all points, which is open where no candidate or no room was left; whether a triplet list on the way had more than 80 entries, which a short list at the end does not undo.
 // `over` is a flag and no Result: `close` and `layout_hull::hull_triplets` promise a hull for all points, and cannot fail.
@@ -121,26 +121,26 @@ fn candidate(pts: &[[f64; 3]]) -> Option<Best>
     best
 }
 
-// The first n directions, with room for the imaginary points, in an array's first places.
-// The directions come as the caller holds them: the arrays of its active speakers with their count (fixed memory), read where they stand. A slice of directions would need a second array beside those, and a slice of these numbers moves the cut into each caller.
-fn with_room(dir: &[f64; 120], n: usize) -> [[f64; 3]; 54]
-    requires { n ≤ 40 }
-    ensures { take n result ≡ points_in n dir.now }
+// The directions of the real speakers, with room for the imaginary points, in an array's first places.
+fn with_room(real: &[Speaker]) -> [[f64; 3]; 54]
+    requires { length real.now ≤ 40 }
+    ensures { take (length real.now) result ≡ dirs_of real.now }
 {
     let mut pts = [[0.0; 3]; 54];
-    for i in 0..n {
-        pts[i] = vector::point(dir, i);
+    for (i, s) in real.iter().enumerate() {
+        pts[i] = s.dir;
     }
     pts
 }
 
-// The n directions, three numbers each in the caller's array, with the poles and, while the hull is open and fewer than fourteen points are imaginary, candidates.
-pub fn close(dir: &[f64; 120], n: usize) -> Ended
-    requires { n ≤ 40 }
-    ensures { result ≡ ended_in (points_in n dir.now) }
+// The directions of the real speakers, with the poles and, while the hull is open and fewer than fourteen points are imaginary, candidates.
+pub fn close(real: &[Speaker]) -> Ended
+    requires { length real.now ≤ 40 }
+    ensures { result ≡ ended_in (dirs_of real.now) }
 {
+    let n = real.len();
     // the points stand in an array of 54, and how many there are beside it: n, then top, then m
-    let mut pts = with_room(dir, n);
+    let mut pts = with_room(real);
     // the poles. Origin: vbap.rs lines 369 and 371
     let top = with_pole(&mut pts, n, [0.0, 1.0, 0.0]);
     let mut m = with_pole(&mut pts, top, [0.0, -1.0, 0.0]);

@@ -9,7 +9,8 @@ use lib.Dec.{eqb, ltb}
 use lib.Ieee.{Float}
 use lib.ListN.{length, get_or}
 use Rattle.lists.specs.Lists.{every}
-use Rattle.vector.specs.Speakers.{Speaker, slots_of}
+use Rattle.vector.specs.declared.Speaker.{Speaker}
+use Rattle.vector.specs.Speakers.{slots_of}
 use Rattle.layout_planar.specs.Planar.{pairs_of}
 use Rattle.layout_record.specs.Shape.{silent, mono, planar, Layout, imaginary_in}
 use Rattle.layout_record.specs.Panner.{laid, no_panner, layout_in}
@@ -39,8 +40,8 @@ module _ (n : ℕ) where
   built_none [] e = refl
   built_none (s ∷ l) e = absurd (omega arith)
 
-  pub built_one : (act : List Speaker) → length act ≡ 1 → built_of n act ≡ accepted (record { outputs = n; shape = mono (get_or (slots_of act) 0 0) })
-  unfolding built_of too_many_triplets shape_of slots_of
+  pub built_one : (act : List Speaker) → length act ≡ 1 → built_of n act ≡ accepted (record { outputs = n; shape = mono (get_or act 0 (record { slot = 0; dir = [] })).slot })
+  unfolding built_of too_many_triplets shape_of
   built_one [] e = absurd (omega arith)
   built_one (s ∷ []) e = refl
   built_one (s ∷ (t ∷ l)) e = absurd (omega arith)
@@ -99,7 +100,7 @@ module _ (positions : List Float) (lfe : List ℕ) where
     new_silent e = sym (new_built even room ∙ built_none (outputs_of positions) (active positions lfe) e)
 
     pub new_mono : length (active positions lfe) ≡ 1
-        → accepted (record { outputs = outputs_of positions; shape = mono (get_or (slots_of (active positions lfe)) 0 0) }) ≡ new_of positions lfe
+        → accepted (record { outputs = outputs_of positions; shape = mono (get_or (active positions lfe) 0 (record { slot = 0; dir = [] })).slot }) ≡ new_of positions lfe
     new_mono e = sym (new_built even room ∙ built_one (outputs_of positions) (active positions lfe) e)
 
     pub new_level : 2 ≤ length (active positions lfe) → every level (active positions lfe) ≡ true

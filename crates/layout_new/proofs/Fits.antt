@@ -12,7 +12,9 @@ use Rattle.lists.proofs.Ranges.{length_between}
 use Rattle.lists.proofs.Tests.{every_append, every_more, every_map}
 use Rattle.float_widths.specs.Narrow.{narrow_of}
 use Rattle.vector.specs.Vector.{Points}
-use Rattle.vector.specs.Speakers.{Speaker, slots_of, dirs_of}
+use Rattle.vector.specs.declared.Speaker.{Speaker}
+use Rattle.vector.specs.Speakers.{slots_of, dirs_of}
+use Rattle.vector.proofs.Speakers.{slots_count, dirs_count}
 use Rattle.layout_planar.specs.Planar.{pairs_of}
 use Rattle.layout_hull.specs.Triplets.{triplets_of}
 use Rattle.layout_closing.specs.Closing.{final_points, overfull}
@@ -24,13 +26,9 @@ use Rattle.layout_record.specs.Meaning.{HullFits, LayoutFits, point_count}
 use Rattle.layout_new.specs.Layout.{build_hull_of, level, shape_of, too_many_triplets}
 use Rattle.layout_new.proofs.Hulls.{numbers_low, inverses_nine, final_count, final_fits, neighbours_fit, neighbours_all_low}
 use Rattle.layout_new.proofs.Slots.{slots_of_lem, pairs_low}
-use Rattle.layout_new.proofs.Speakers.{three, slots_count, dirs_three, pairs_few}
+use Rattle.layout_new.proofs.Speakers.{three, dirs_three, pairs_few}
 
 -- ---- a hull
-
-pub dirs_count : (act : List Speaker) → length (dirs_of act) ≡ length act
-unfolding dirs_of
-dirs_count act = length-map act (λ s. s.dir)
 
 -- to narrow keeps the number of numbers
 narrowed_three : (ds : Points) → every (λ d. eqb (length d) 3) ds ≡ true → every (λ d. eqb (length d) 3) (map (map narrow_of) ds) ≡ true

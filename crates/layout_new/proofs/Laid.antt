@@ -1,95 +1,17 @@
--- A record written in one piece is the layout laid flat, kind by kind. Assumes nothing.
+-- The record of a hull, written in one piece, is the layout laid flat. Assumes nothing.
 use Prim.Native.Nat.{ℕ}
 use mathlib.Core.Path.{◌≡◌}
 use mathlib.Core.List.{List, [], map, flat_map}
 use lib.Ieee.{Float, nan}
 use lib.ListN.{length, get_or, replicate}
-use Rattle.lists.specs.Lists.{from, range, filled}
+use Rattle.lists.specs.Lists.{range, filled}
 use Rattle.float_order.specs.Values.{+0}
-use Rattle.vector.specs.Speakers.{Speaker, slots_of}
 use Rattle.layout_planar.specs.declared.PlanarPair.{PlanarPair}
-use Rattle.layout_planar.specs.Planar.{no_pair, pairs_of}
-use Rattle.layout_record.specs.Shape.{HullShape, numbers, silent, mono, planar, hull}
+use Rattle.layout_planar.specs.Planar.{no_pair}
+use Rattle.layout_record.specs.Shape.{HullShape, numbers, hull}
 use Rattle.layout_record.specs.Panner.{kind_in, mono_in, pairs_in, slots_in, hull_in, laid}
-use Rattle.layout_record.specs.declared.Kind.TheVariants.{Silent, Mono, Planar, Hull}
+use Rattle.layout_record.specs.declared.Kind.TheVariants.{Hull}
 use Rattle.layout_record.specs.declared.VbapPanner.{VbapPanner}
-
--- ---- none active, one, and a ring
-
-pub laid_silent : (n : ℕ) {pairs : List PlanarPair} → pairs ≡ replicate 40 no_pair
-    → ◌≡◌ {A = VbapPanner}
-    (record {
-      num_outputs = n;
-      kind = Silent;
-      mono = 0;
-      num_pairs = 0;
-      pairs = pairs;
-      num_slots = 0;
-      slots = replicate 40 0;
-      num_real = 0;
-      pt_out = replicate 40 0;
-      pt_dir = replicate 120 +0;
-      num_tris = 0;
-      idx = replicate 240 0;
-      inv = replicate 720 +0;
-      num_imag = 0;
-      num_nbrs = replicate 14 0;
-      imag_nbrs = replicate 560 0;
-    })
-    (laid (record { outputs = n; shape = silent }))
-unfolding laid kind_in mono_in pairs_in slots_in hull_in filled flat_map range from
-laid_silent n pairs = rw pairs
-
-pub laid_mono : (n i : ℕ) {pairs : List PlanarPair} → pairs ≡ replicate 40 no_pair
-    → ◌≡◌ {A = VbapPanner}
-    (record {
-      num_outputs = n;
-      kind = Mono;
-      mono = i;
-      num_pairs = 0;
-      pairs = pairs;
-      num_slots = 0;
-      slots = replicate 40 0;
-      num_real = 0;
-      pt_out = replicate 40 0;
-      pt_dir = replicate 120 +0;
-      num_tris = 0;
-      idx = replicate 240 0;
-      inv = replicate 720 +0;
-      num_imag = 0;
-      num_nbrs = replicate 14 0;
-      imag_nbrs = replicate 560 0;
-    })
-    (laid (record { outputs = n; shape = mono i }))
-unfolding laid kind_in mono_in pairs_in slots_in hull_in filled flat_map range from
-laid_mono n i pairs = rw pairs
-
-pub laid_planar : (n : ℕ) (act : List Speaker) {np ns : ℕ} {pairs : List PlanarPair} {slots : List ℕ}
-    → np ≡ length (pairs_of act) → pairs ≡ filled 40 no_pair (pairs_of act) → ns ≡ length (slots_of act) → slots ≡ filled 40 0 (slots_of act)
-    → ◌≡◌ {A = VbapPanner}
-    (record {
-      num_outputs = n;
-      kind = Planar;
-      mono = 0;
-      num_pairs = np;
-      pairs = pairs;
-      num_slots = ns;
-      slots = slots;
-      num_real = 0;
-      pt_out = replicate 40 0;
-      pt_dir = replicate 120 +0;
-      num_tris = 0;
-      idx = replicate 240 0;
-      inv = replicate 720 +0;
-      num_imag = 0;
-      num_nbrs = replicate 14 0;
-      imag_nbrs = replicate 560 0;
-    })
-    (laid (record { outputs = n; shape = planar (pairs_of act) (slots_of act) }))
-unfolding laid kind_in mono_in pairs_in slots_in hull_in filled flat_map range from
-laid_planar n act np pairs ns slots = rw (np, pairs, ns, slots)
-
--- ---- a hull
 
 pub laid_hull : (n : ℕ) (h : HullShape) {nr nt ni : ℕ} {pairs : List PlanarPair} {out idx num nbrs : List ℕ} {dir inv : List Float}
     → pairs ≡ replicate 40 no_pair → nr ≡ length h.out → out ≡ filled 40 0 h.out → dir ≡ filled 120 +0 (flat_map (λ d. d) h.dirs)

@@ -16,7 +16,9 @@ use Rattle.lists.specs.Lists.{range, collect, joined, every}
 use Rattle.lists.proofs.Collect.{length_collect, map_snoc}
 use Rattle.lists.proofs.Ranges.{range_none, length_range}
 use Rattle.lists.proofs.Tests.{every_append, every_at, every_get_d, every_map}
-use Rattle.vector.specs.Speakers.{Speaker, slots_of}
+use Rattle.vector.specs.declared.Speaker.{Speaker}
+use Rattle.vector.specs.Speakers.{slots_of}
+use Rattle.vector.proofs.Speakers.{slots_count}
 use Rattle.angle_sort.specs.declared.Spot.{Spot}
 use Rattle.angle_sort.proofs.Insertion.{every_sorted}
 use Rattle.layout_planar.specs.declared.PlanarPair.{PlanarPair}
@@ -24,7 +26,7 @@ use Rattle.layout_planar.specs.Planar.{coincident, spot_of, ring, spot_at, pair_
 use Rattle.layout_new.specs.Layout.{outputs_of, speaker_at, active}
 use Rattle.layout_new.specs.Meaning.{Ascending}
 use Rattle.layout_new.proofs.Hulls.{every_flat_map}
-use Rattle.layout_new.proofs.Speakers.{collect_range, picked, active_slot, active_three, three, every_collect, slots_count}
+use Rattle.layout_new.proofs.Speakers.{collect_range, picked, active_slot, active_three, three, every_collect}
 
 -- ---- a collection over places
 

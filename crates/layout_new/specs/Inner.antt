@@ -1,3 +1,2 @@
 -- What connects the functions with the definitions; nothing here has to be believed.
-pub mod Arrays
 pub mod Answers

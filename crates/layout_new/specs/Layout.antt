@@ -10,7 +10,8 @@ use Rattle.float_order.specs.Values.{abs}
 use Rattle.float_widths.specs.Narrow.{narrow_of}
 use Rattle.float_sine.specs.Sine.{sin_of}
 use Rattle.vector.specs.Vector.{Vector, y, unit_of}
-use Rattle.vector.specs.Speakers.{Speaker, slots_of, dirs_of}
+use Rattle.vector.specs.declared.Speaker.{Speaker}
+use Rattle.vector.specs.Speakers.{slots_of, dirs_of}
 use Rattle.layout_planar.specs.Planar.{pairs_of}
 use Rattle.layout_hull.specs.Triplets.{triplets_of}
 use Rattle.layout_closing.specs.Closing.{final_points, overfull}

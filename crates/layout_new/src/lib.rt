@@ -6,15 +6,15 @@ ghost use Rattle.std.specs.Prelude.{◌≡◌, ◌+◌, ◌*◌, ◌≤◌, leng
 ghost use Rattle.layout_planar.specs.Planar.{pairs_of};
 ghost use Rattle.vector.specs.Speakers.{slots_of};
 ghost use Rattle.layout_new.specs.Layout.{outputs_of, in_slot, speaker_at, active, new_answer, new_of};
-ghost use Rattle.layout_new.specs.Inner.Answers.{accepted, hull_built_of};
-ghost use Rattle.layout_record.specs.Shape.{silent, mono, planar};
+ghost use Rattle.layout_new.specs.Inner.Answers.{accepted, alone, hull_built_of};
+ghost use Rattle.layout_record.specs.Shape.{planar};
 
 mod active;
 
 use active::ActiveSpeakers;
 use layout_record::{Kind, VbapPanner};
 use refusals::Refusal;
-use vector::MAX_IMAGINARY;
+use vector::{MAX_IMAGINARY, Speaker};
 
 // Origin: document 01, refusal 2. The number of places of a row, `mix_block::ROW`, stands in a crate above.
 const MOST_OUTPUTS: usize = 40;
@@ -36,9 +36,7 @@ fn direction(positions: &[f32], lfe: &[usize], i: usize) -> Option<[f64; 3]>
     if lfe.contains(&i) {
         return None;
     }
-    // not `vector::point`, which is of f64
-    let k = i * 3;
-    vector::unit([positions[k], positions[k + 1], positions[k + 2]])
+    vector::unit(vector::point(positions, i))
 }
 
 fn active_speakers(positions: &[f32], lfe: &[usize]) -> ActiveSpeakers
@@ -48,7 +46,10 @@ fn active_speakers(positions: &[f32], lfe: &[usize]) -> ActiveSpeakers
     let mut found = ActiveSpeakers::none();
     for i in 0..positions.len() / 3 {
         if let Some(u) = direction(positions, lfe, i) {
-            found.push(i as u8, u);
+            found.push(Speaker {
+                slot: i as u8,
+                dir: u,
+            });
         }
     }
     found
@@ -57,44 +58,21 @@ fn active_speakers(positions: &[f32], lfe: &[usize]) -> ActiveSpeakers
 // ---- the answer, by the record's kind. Each record is one literal, of arrays that stand in locals: a blank record with fields written over it would be moved about whole (`new` of one speaker took twice the time), and so would what is read out of another record.
 // Each kind is a function that is not inlined and that answers for `new`: a function makes room for all arrays of what is inlined into it, whichever kind it then makes, and a record that is handed on is copied.
 
+// No speaker is active, or one, in its slot.
 #[inline(never)]
-fn silent(outputs: u8) -> Result<NewPanner, Refusal>
-    ensures { new_answer result ≡ accepted (record { outputs = outputs; shape = silent }) }
+fn without_points(outputs: u8, slot: Option<u8>) -> Result<NewPanner, Refusal>
+    ensures { new_answer result ≡ accepted (record { outputs = outputs; shape = alone slot }) }
 {
     let pairs = layout_planar::no_pairs();
+    let (kind, mono) = match slot {
+        Some(s) => (Kind::Mono, s),
+        None => (Kind::Silent, 0),
+    };
     Ok(NewPanner {
         panner: VbapPanner {
             num_outputs: outputs,
-            kind: Kind::Silent,
-            mono: 0,
-            num_pairs: 0,
-            pairs,
-            num_slots: 0,
-            slots: [0; 40],
-            num_real: 0,
-            pt_out: [0; 40],
-            pt_dir: [0.0; 120],
-            num_tris: 0,
-            idx: [0; 240],
-            inv: [0.0; 720],
-            num_imag: 0,
-            num_nbrs: [0; MAX_IMAGINARY],
-            imag_nbrs: [0; 560],
-        },
-        imaginary: 0,
-    })
-}
-
-#[inline(never)]
-fn mono(outputs: u8, slot: u8) -> Result<NewPanner, Refusal>
-    ensures { new_answer result ≡ accepted (record { outputs = outputs; shape = mono slot }) }
-{
-    let pairs = layout_planar::no_pairs();
-    Ok(NewPanner {
-        panner: VbapPanner {
-            num_outputs: outputs,
-            kind: Kind::Mono,
-            mono: slot,
+            kind,
+            mono,
             num_pairs: 0,
             pairs,
             num_slots: 0,
@@ -117,9 +95,10 @@ fn mono(outputs: u8, slot: u8) -> Result<NewPanner, Refusal>
 fn planar(outputs: u8, ring: &ActiveSpeakers) -> Result<NewPanner, Refusal>
     ensures { new_answer result ≡ accepted (record { outputs = outputs; shape = planar (pairs_of ring.now) (slots_of ring.now) }) }
 {
-    let made = layout_planar::build_planar(&ring.out, &ring.dir, ring.count);
+    let used = ring.used();
+    let made = layout_planar::build_planar(used);
     let pairs = made.pairs;
-    let slots = ring.out;
+    let slots = ring.slots();
     Ok(NewPanner {
         panner: VbapPanner {
             num_outputs: outputs,
@@ -127,7 +106,7 @@ fn planar(outputs: u8, ring: &ActiveSpeakers) -> Result<NewPanner, Refusal>
             mono: 0,
             num_pairs: made.num_pairs as u8,
             pairs,
-            num_slots: ring.count as u8,
+            num_slots: used.len() as u8,
             slots,
             num_real: 0,
             pt_out: [0; 40],
@@ -148,7 +127,8 @@ fn planar(outputs: u8, ring: &ActiveSpeakers) -> Result<NewPanner, Refusal>
 fn build_hull(outputs: u8, real: &ActiveSpeakers) -> Result<NewPanner, Refusal>
     ensures { new_answer result ≡ hull_built_of outputs real.now }
 {
-    let ended = layout_closing::close(&real.dir, real.count);
+    let used = real.used();
+    let ended = layout_closing::close(used);
     if ended.over {
         return Err(Refusal::TooManyTriplets);
     }
@@ -157,10 +137,10 @@ fn build_hull(outputs: u8, real: &ActiveSpeakers) -> Result<NewPanner, Refusal>
     let idx = hull.idx;
     let inv = hull.inv;
     let tris = hull.count;
-    let nbrs = layout_neighbours::neighbours(&idx, tris, &real.out, real.count, real.count + imag);
+    let pt_out = real.slots();
+    let nbrs = layout_neighbours::neighbours(&idx[..tris * 3], &pt_out[..used.len()], imag);
     let num_nbrs = nbrs.num_nbrs;
     let imag_nbrs = nbrs.imag_nbrs;
-    let pt_out = real.out;
     let pt_dir = real.narrowed();
     let pairs = layout_planar::no_pairs();
     Ok(NewPanner {
@@ -172,7 +152,7 @@ fn build_hull(outputs: u8, real: &ActiveSpeakers) -> Result<NewPanner, Refusal>
             pairs,
             num_slots: 0,
             slots: [0; 40],
-            num_real: real.count as u8,
+            num_real: used.len() as u8,
             pt_out,
             pt_dir,
             num_tris: tris as u8,
@@ -199,11 +179,12 @@ pub fn new(positions: &[f32], lfe: &[usize]) -> Result<NewPanner, Refusal>
     }
     let outputs = (positions.len() / 3) as u8;
     let found = active_speakers(positions, lfe);
-    if found.count == 0 {
-        return silent(outputs);
+    let used = found.used();
+    if used.len() == 0 {
+        return without_points(outputs, None);
     }
-    if found.count == 1 {
-        return mono(outputs, found.out[0]);
+    if used.len() == 1 {
+        return without_points(outputs, Some(used[0].slot));
     }
     if found.all_level() {
         return planar(outputs, &found);

@@ -1,14 +1,13 @@
 -- The pairs in their array: one turn of the loop looks at one spot more, and stores a pair or none. Assumes nothing.
 use Rattle.std.proofs.Common.{◌≡◌, ℕ, ◌+◌, ◌%◌, ◌<◌, true, List, length, set, replicate, refl, ap, ◌∙◌, mod-lt, arith, None, Some}
 use mathlib.Core.Option.{Option, none, some}
-use lib.Ieee.{Float, nan}
+use lib.Ieee.{nan}
 use Rattle.lists.specs.Lists.{collect, every, range}
 use Rattle.lists.proofs.Collect.{collect_some, collect_none}
 use Rattle.lists.proofs.Filled.{Gathered, gathered_none, gathered_same, gathered_more}
 use Rattle.lists.proofs.Ranges.{range_none, range_snoc}
 use Rattle.lists.proofs.Tests.{every_at}
-use Rattle.vector.specs.Speakers.{speakers_in}
-use Rattle.vector.proofs.Points.{length_speakers}
+use Rattle.vector.specs.declared.Speaker.{Speaker}
 use Rattle.angle_sort.specs.declared.Spot.{Spot}
 use Rattle.layout_planar.specs.declared.PlanarPair.{PlanarPair}
 use Rattle.layout_planar.specs.declared.Planar.{Planar}
@@ -62,7 +61,6 @@ module _ (l : List Spot) where
         (ap (collect (pair_at l)) (range_snoc i) ∙ collect_some (pair_at l) (range i) i p (told_some (pair_at l i) p e))
         (gathered_more 40 no_pair p h g)
 
-pub pairs_done : (n : ℕ) (out : List ℕ) (dir : List Float) {a : List PlanarPair} {count : ℕ}
-    → Gathered 40 no_pair (pairs_from (ring (speakers_in n out dir)) n) a count → ◌≡◌ {A = Planar} (record { pairs = a; num_pairs = count }) (planar_in n out dir)
+pub pairs_done : (act : List Speaker) {a : List PlanarPair} {count : ℕ} → Gathered 40 no_pair (pairs_from (ring act) (length act)) a count → ◌≡◌ {A = Planar} (record { pairs = a; num_pairs = count }) (planar_in act)
 unfolding planar_in pairs_of
-pairs_done n out dir g = rw (g.holds, g.counts, length_speakers n out dir) refl
+pairs_done act g = rw (g.holds, g.counts) refl

@@ -12,7 +12,7 @@ use Rattle.float_sine.specs.Sine.{sin_of, cos_of}
 use Rattle.float_arctangent.specs.Arctangent.{atan2_of}
 use Rattle.vector.specs.Operations.{Two, pair_determinant_by, pair_rows_by}
 use Rattle.vector.specs.Vector.{x, z, floats}
-use Rattle.vector.specs.Speakers.{Speaker}
+use Rattle.vector.specs.declared.Speaker.{Speaker}
 use Rattle.angle_sort.specs.declared.Spot.{Spot}
 use Rattle.angle_sort.specs.Order.{sorted_of}
 use Rattle.layout_planar.specs.declared.Law.{Law}

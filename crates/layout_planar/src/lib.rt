@@ -1,15 +1,15 @@
 // The pairs of a planar layout.
-// Lengths of arrays: 40 speakers (document 01, refusal 2), so at most 40 spots and 40 pairs, and three numbers a direction, 120.
+// Lengths of arrays: 40 speakers (document 01, refusal 2), so at most 40 spots and 40 pairs.
 #![tactic(auto)]
 
-ghost use Rattle.std.specs.Prelude.{◌≡◌, ◌≤◌, true, take, replicate};
+ghost use Rattle.std.specs.Prelude.{◌≡◌, ◌≤◌, true, length, take, replicate};
 ghost use Rattle.lists.specs.Lists.{every};
-ghost use Rattle.vector.specs.Speakers.{speakers_in};
 ghost use Rattle.layout_planar.specs.Planar.{spot_of, ring, gap_at, inverse_law, pair_of, no_pair};
 ghost use Rattle.layout_planar.specs.Inner.Arrays.{slot_fits, sin_cos_of, law_by, told_of, planar_in};
 
 use angle_sort::Spot;
 use float_sine::SinCos;
+use vector::Speaker;
 
 // How a planar pair shares its power, in the form that document 01 names (the law): the inverse of its two directions' matrix, row after row, or the crossfade.
 #[derive(Clone, Copy)]
@@ -47,32 +47,32 @@ const COINCIDENT: f64 = 1e-6;
 // Just under pi: the 32-bit pi less 1e-3. Origin: vbap.rs line 55; a pair with this gap or more has the crossfade.
 const MAX_VBAP_GAP: f32 = 3.1405928;
 
-// The azimuth and the slot of a speaker. That a slot fits in 8 bits is promised here, and a spot's number is a usize: a `Spot<N>` would put a type parameter into each definition and function of the sort, the ring and the fan for this one fact.
-fn spot(slot: u8, dir: [f64; 3]) -> Spot
-    ensures is { result ≡ spot_of (record { slot = slot; dir = dir }) }
+// The azimuth and the slot of a speaker. That a slot fits in 8 bits is promised here, since a spot's number is a usize: a `Spot<N>` would put a type parameter into each definition and function of the sort, the ring and the fan for this one fact, and a u8 there would ask more of whoever sorts.
+#[tactic(auto, unfolding(crate::specs::Planar::spot_of, crate::specs::Inner::Arrays::slot_fits))]
+fn spot(s: Speaker) -> Spot
+    ensures is { result ≡ spot_of s }
     ensures slot { slot_fits result ≡ true }
 {
     Spot {
-        angle: float_arctangent::atan2(dir[0], -dir[2]),
-        number: slot as usize,
+        angle: float_arctangent::atan2(s.dir[0], -s.dir[2]),
+        number: s.slot as usize,
     }
 }
 
-// The azimuths and slots of n speakers in ascending order of azimuth, equals in slot order, in the array's first places.
-// The slots and the directions come as the caller holds them: the arrays of its active speakers with their count (fixed memory); slices would move the cut into each caller.
-fn sorted_spots(out: &[u8; 40], dir: &[f64; 120], n: usize) -> [Spot; 40]
-    requires { n ≤ 40 }
-    ensures are { take n result ≡ ring (speakers_in n out.now dir.now) }
-    ensures slots { every slot_fits (take n result) ≡ true }
+// The azimuths and slots of the active speakers in ascending order of azimuth, equals in slot order, in the array's first places.
+fn sorted_spots(active: &[Speaker]) -> [Spot; 40]
+    requires { length active.now ≤ 40 }
+    ensures are { take (length active.now) result ≡ ring active.now }
+    ensures slots { every slot_fits (take (length active.now) result) ≡ true }
 {
     let mut a = [Spot {
         angle: 0.0,
         number: 0,
     }; 40];
-    for i in 0..n {
-        a[i] = spot(out[i], vector::point(dir, i));
+    for (i, s) in active.iter().enumerate() {
+        a[i] = spot(*s);
     }
-    angle_sort::sort(&mut a[..n]);
+    angle_sort::sort(&mut a[..active.len()]);
     a
 }
 
@@ -153,13 +153,14 @@ pub fn no_pairs() -> [PlanarPair; 40]
     [none; 40]
 }
 
-// The pairs of the ring that n active speakers make: their slots, and three numbers a direction.
+// The pairs of the ring that the active speakers make.
 // The sine and the cosine of each spot serve the pair that ends at it and the one that starts there.
-pub fn build_planar(out: &[u8; 40], dir: &[f64; 120], n: usize) -> Planar
-    requires { n ≤ 40 }
-    ensures { result ≡ planar_in n out.now dir.now }
+pub fn build_planar(active: &[Speaker]) -> Planar
+    requires { length active.now ≤ 40 }
+    ensures { result ≡ planar_in active.now }
 {
-    let a = sorted_spots(out, dir, n);
+    let n = active.len();
+    let a = sorted_spots(active);
     let ring = &a[..n];
     let first = a[0];
     let mut here = float_sine::sin_cos(first.angle);

@@ -11,7 +11,7 @@ use Rattle.lists.specs.Lists.{from, range, collect, any, every, part}
 use Rattle.float_order.specs.Values.{is_finite}
 use Rattle.float_root.specs.Root.{sqrt_of}
 use Rattle.vector.specs.Vector.{dot_in, dot_of, over_of, length_of, unit_of}
-use Rattle.vector.specs.Speakers.{Speaker}
+use Rattle.vector.specs.declared.Speaker.{Speaker}
 use Rattle.layout_new.specs.Layout.{outputs_of, speaker_at, active, shape_of, layout_of, too_many_triplets}
 use Rattle.mix_block.specs.Limits.{most_sources}
 use Rattle.session_open.specs.Open.{open_refusal, open_of}

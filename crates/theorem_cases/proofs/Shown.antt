@@ -16,7 +16,8 @@ use Rattle.float_sine.specs.Series.{coefficients, sum_of, factorial}
 use Rattle.float_sine.specs.Sine.{sine_coefficients, cosine_coefficients, S, C, remainder, quotient, nearest_whole, quarter, reduced, mod4, sine_by, cosine_by, sin_of, cos_of, sin32_of, cos32_of}
 use Rattle.float_arctangent.specs.Arctangent.{arctangent_coefficients, halved_of, eightfold_of, atan_of, ratio_of, first_quadrant_of, with_sign_of_x, with_sign_of_y, atan2_of}
 use Rattle.vector.specs.Vector.{dot_in, dot_of, over_of, length_of, unit_of}
-use Rattle.vector.specs.Speakers.{Speaker, slots_of}
+use Rattle.vector.specs.declared.Speaker.{Speaker}
+use Rattle.vector.specs.Speakers.{slots_of}
 use Rattle.angle_sort.specs.declared.Spot.{Spot}
 use Rattle.angle_sort.specs.Order.{insert_of, sorted_of}
 use Rattle.layout_planar.specs.declared.Law.TheVariants.{Crossfade}

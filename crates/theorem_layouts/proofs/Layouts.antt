@@ -8,7 +8,8 @@ use Rattle.lists.proofs.Ranges.{length_between}
 use Rattle.float_order.specs.Values.{+0, 1·0, abs}
 use Rattle.float_widths.specs.Narrow.{narrow_of}
 use Rattle.vector.specs.Vector.{Vector}
-use Rattle.vector.specs.Speakers.{Speaker, slots_of, dirs_of}
+use Rattle.vector.specs.declared.Speaker.{Speaker}
+use Rattle.vector.specs.Speakers.{slots_of, dirs_of}
 use Rattle.layout_planar.specs.declared.Law.{Law}
 use Rattle.layout_planar.specs.declared.Law.TheVariants.{Inverse, Crossfade}
 use Rattle.layout_planar.specs.declared.PlanarPair.{PlanarPair}

@@ -12,7 +12,8 @@ use Rattle.float_widths.proofs.Grid.{le_or_lt}
 use Rattle.float_sine.specs.Pi.{two_pi, tau32}
 use Rattle.float_sine.specs.Sine.{sin_of, cos_of}
 use Rattle.vector.specs.Vector.{minor}
-use Rattle.vector.specs.Speakers.{Speaker, slots_of}
+use Rattle.vector.specs.declared.Speaker.{Speaker}
+use Rattle.vector.specs.Speakers.{slots_of}
 use Rattle.angle_sort.specs.declared.Spot.{Spot}
 use Rattle.angle_sort.proofs.Insertion.{length_sorted}
 use Rattle.layout_planar.specs.declared.Law.TheVariants.{Inverse, Crossfade}

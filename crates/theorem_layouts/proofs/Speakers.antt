@@ -6,7 +6,8 @@ use lib.Ieee.{Float, binary32, fits}
 use Rattle.lists.specs.Lists.{from, range, collect, joined, member, part, Each, Once}
 use Rattle.lists.proofs.Parts.{length_part}
 use Rattle.vector.specs.Vector.{Vector, unit_of}
-use Rattle.vector.specs.Speakers.{Speaker, slots_of}
+use Rattle.vector.specs.declared.Speaker.{Speaker}
+use Rattle.vector.specs.Speakers.{slots_of}
 use Rattle.layout_new.specs.Layout.{outputs_of, in_slot, speaker_at, active}
 use Rattle.theorem_layouts.specs.Sound.{Active}
 use Rattle.lists.proofs.Each.{Some, each_imply, each_map, each_part, each_collect, each_from, each_range}

@@ -1,3 +1,4 @@
 pub mod Points
 pub mod Pulkki
 pub mod Rows
+pub mod Speakers

@@ -1,9 +1,8 @@
 -- Document 01, "What to write where" (each direction an [f64; 3]); source lines 155 to 183: unit, cross, dot, dir_vec.
 -- A vector is the list of its three numbers. What dot, cross, a determinant and an inverse's rows are is written in Operations.antt. Assumes nothing.
-use Rattle.std.specs.Prelude.{ℕ, ◌+◌, ◌*◌, ◌||◌, not, cond, List, [], ◌∷◌, ◌++◌, map, get_or, Option, None, Some, Float}
+use Rattle.std.specs.Prelude.{ℕ, ◌+◌, ◌*◌, ◌||◌, not, cond, List, [], ◌∷◌, ◌++◌, get_or, Option, None, Some, Float}
 use Rattle.std.specs.Float.{nan, Format, binary32, binary64}
 use Rattle.std.specs.Float.Ieee.{add, sub, neg, mul, div, le, of_bits}
-use Rattle.lists.specs.Lists.{range, part}
 use Rattle.float_order.specs.Values.{is_finite}
 use Rattle.float_root.specs.Root.{sqrt_of}
 use Rattle.float_sine.specs.Sine.{sin32_of, cos32_of}
@@ -86,9 +85,6 @@ dir_vec_of az el =
 unfoldable pub places_in : {A : Type 0} → A → List A → ℕ → List A
 places_in d flat p = get_or flat (p * 3) d ∷ get_or flat (p * 3 + 1) d ∷ get_or flat (p * 3 + 2) d ∷ []
 
--- point p of a flat array, three numbers a point, as it is read; and the first n points
+-- point p of a flat array, three numbers a point, as it is read
 unfoldable pub point_in : List Float → ℕ → Vector
 point_in flat p = places_in nan flat p
-
-unfoldable pub points_in : ℕ → List Float → Points
-points_in n flat = map (part 3 flat) (range n)

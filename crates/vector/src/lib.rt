@@ -14,6 +14,13 @@ pub const MAX_IMAGINARY: usize = 14;
 // How many triplets a hull may have. Origin: document 01, refusal 4.
 pub const MOST_TRIPLETS: usize = 80;
 
+// An active speaker: its output slot and its unit direction, in 64 bits.
+#[derive(Clone, Copy)]
+pub struct Speaker {
+    pub slot: u8,
+    pub dir: [f64; 3],
+}
+
 // The position as a direction, where its length is finite and above 1e-6.
 pub fn unit(p: [f32; 3]) -> Option<[f64; 3]>
     ensures { result ≡ unit_of p }

@@ -2,7 +2,7 @@ use Rattle.std.proofs.Common.{◌≡◌, ℕ, ◌/◌, length, sym, ap, ◌∙�
 use mathlib.Core.Option.{Option}
 use mathlib.Core.List.{List, [], ◌∷◌, ◌++◌, append-nil}
 use Rattle.lists.specs.Lists.{from, range, collect, joined}
-use Rattle.vector.specs.Speakers.{Speaker}
+use Rattle.vector.specs.declared.Speaker.{Speaker}
 use Rattle.lists.proofs.Collect.{length_collect}
 use Rattle.lists.proofs.Ranges.{length_range}
 use Rattle.layout_new.specs.Layout.{speaker_at, outputs_of, active}

@@ -1,8 +1,6 @@
 -- `layout_new::direction` meets its contract: an LFE slot has no speaker, any other what `unit` makes of its position. Assumes nothing.
-use Rattle.std.proofs.Common.{◌≡◌, true, false, eqb, sym, ap, ◌∙◌, arith}
-use lib.Ieee.{nan}
+use Rattle.std.proofs.Common.{◌≡◌, true, false, eqb, sym, ap, ◌∙◌}
 use Rattle.lists.specs.Lists.{member}
-use Rattle.lists.proofs.Parts.{part_three}
 use Rattle.vector.specs.Vector.{unit_of}
 use Rattle.layout_record.proofs.Bounds.{any_is}
 use Rattle.layout_new.specs.Layout.{in_slot}
@@ -19,4 +17,4 @@ pub returns : goal.returns
 returns c =
     let a = c.args in
     let e : member a.i a.lfe.now ≡ false = sym (any_is (λ q. eqb q a.i) a.lfe.now) ∙ sym c.contains.ensures.value ∙ c.if-contains.false in
-    ap (in_slot a.i) (c.unit.ensures ∙ ap unit_of (sym (part_three a.positions.now a.i nan (omega arith)))) ∙ sym (not_lfe a.positions.now a.lfe.now a.i e)
+    ap (in_slot a.i) (c.unit.ensures ∙ ap unit_of c.point.ensures.part) ∙ sym (not_lfe a.positions.now a.lfe.now a.i e)

@@ -10,42 +10,40 @@ use Rattle.layout_planar.proofs.build_planar.Goals as goal
 use Rattle.layout_planar.proofs.build_planar.Goals.{After-pair_of-pair, After-sin_cos-next, At-loop-i}
 
 -- the ring has n spots
-long : (l : At-loop-i) → length (take l.args.n l.sorted_spots-a.result) ≡ l.args.n
-long l =
-    let g = l.args in
-    ap length l.sorted_spots-a.ensures.are ∙ length_ring g.out.now g.dir.now g.n
+long : (l : At-loop-i) → length (take (length l.args.active.now) l.sorted_spots-a.result) ≡ length l.args.active.now
+long l = ap length l.sorted_spots-a.ensures.are ∙ length_ring l.args.active.now
 
 -- the sine and the cosine of the next spot
 turned : (t : After-sin_cos-next)
-    → t.sin_cos-next.result ≡ sin_cos_of (spot_at (take t.args.n t.sorted_spots-a.result) ((t.loop-i.i + 1) % t.args.n)).angle
+    → t.sin_cos-next.result ≡ sin_cos_of (spot_at (take (length t.args.active.now) t.sorted_spots-a.result) ((t.loop-i.i + 1) % length t.args.active.now)).angle
 turned t = both_told _ t.sin_cos-next.ensures
 
 -- what the pair from spot i to the next is
 told_at : (p : After-pair_of-pair)
-    → p.pair_of-pair.result ≡ told_of (pair_at (take p.args.n p.sorted_spots-a.result) p.loop-i.i)
+    → p.pair_of-pair.result ≡ told_of (pair_at (take (length p.args.active.now) p.sorted_spots-a.result) p.loop-i.i)
 told_at p =
     rw (p.pair_of-pair.ensures, p.gap_at.ensures)
-    (ap told_of (pair_here (take p.args.n p.sorted_spots-a.result) p.args.n p.loop-i.i (long p.before.before.before.before.before.before)))
+    (ap told_of (pair_here (take (length p.args.active.now) p.sorted_spots-a.result) (length p.args.active.now) p.loop-i.i (long p.before.before.before.before.before.before)))
 
 pub loop-i-init : goal.loop-i-init
 loop-i-init c =
-    (zero-le, λ h. both_told _ c.sin_cos-here.ensures ∙ ap (λ (s : Spot). sin_cos_of s.angle) (sym (get_or-take c.args.n c.sorted_spots-a.result 0 (record { angle = nan; number = 0 }) (omega (arith, length-take c.args.n c.sorted_spots-a.result)))), rw c.no_pair-none.ensures (pairs_none _))
+    (zero-le, λ h. both_told _ c.sin_cos-here.ensures ∙ ap (λ (s : Spot). sin_cos_of s.angle) (sym (get_or-take (length c.args.active.now) c.sorted_spots-a.result 0 (record { angle = nan; number = 0 }) (omega (arith, length-take (length c.args.active.now) c.sorted_spots-a.result)))), rw c.no_pair-none.ensures (pairs_none _))
 
 pub pair_of-pair-requires : goal.pair_of-pair-requires
 pair_of-pair-requires c =
-    let l = take c.args.n c.sorted_spots-a.result in
+    let l = take (length c.args.active.now) c.sorted_spots-a.result in
     let e = long (goal.at.pair_of-pair-requires c).At-loop-i in
-    let h : (c.loop-i.i + 1) % c.args.n < length l = rw e (next_below c.args.n c.loop-i.i (omega (arith, e))) in
+    let h : (c.loop-i.i + 1) % (length c.args.active.now) < length l = rw e (next_below (length c.args.active.now) c.loop-i.i (omega (arith, e))) in
     record {
-      s_value = (slot_here l c.loop-i.i c.loop-i-test.true c.sorted_spots-a.ensures.slots, slot_here l ((c.loop-i.i + 1) % c.args.n) h c.sorted_spots-a.ensures.slots);
+      s_value = (slot_here l c.loop-i.i c.loop-i-test.true c.sorted_spots-a.ensures.slots, slot_here l ((c.loop-i.i + 1) % length c.args.active.now) h c.sorted_spots-a.ensures.slots);
       a_value = (c.loop-i.invariant.1 c.loop-i-test.true, turned (goal.at.pair_of-pair-requires c).After-sin_cos-next);
     }
 
 -- the next turn begins with what this one made of the next spot
 onward : (t : After-sin_cos-next)
-    → t.loop-i.i + 1 < length (take t.args.n t.sorted_spots-a.result) → t.sin_cos-next.result ≡ sin_cos_of (spot_at (take t.args.n t.sorted_spots-a.result) (t.loop-i.i + 1)).angle
+    → t.loop-i.i + 1 < length (take (length t.args.active.now) t.sorted_spots-a.result) → t.sin_cos-next.result ≡ sin_cos_of (spot_at (take (length t.args.active.now) t.sorted_spots-a.result) (t.loop-i.i + 1)).angle
 onward t h =
-    let g : t.loop-i.i + 1 < t.args.n = omega (arith, long t.before.before.before.before) in
+    let g : t.loop-i.i + 1 < (length t.args.active.now) = omega (arith, long t.before.before.before.before) in
     rw (mod-eq_of_lt g) at (turned t)
 
 pub loop-i-preserved-in_default : goal.loop-i-preserved-in_default
@@ -58,5 +56,5 @@ loop-i-preserved c =
 
 pub returns : goal.returns
 returns c =
-    let e : c.loop-i.i ≡ c.args.n = omega (arith, long (goal.at.returns c).At-loop-i) in
-    pairs_done _ _ _ (rw (← c.sorted_spots-a.ensures.are) (rw e at c.loop-i.invariant.2))
+    let e : c.loop-i.i ≡ (length c.args.active.now) = omega (arith, long (goal.at.returns c).At-loop-i) in
+    pairs_done _ (rw (← c.sorted_spots-a.ensures.are) (rw e at c.loop-i.invariant.2))

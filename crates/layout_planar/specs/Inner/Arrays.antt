@@ -1,13 +1,13 @@
 -- Document 01, "Layout", the paragraph "Planar": the pairs in an array of 40 places, with their count. Unused places hold 0, +0 or the crossfade. Origin of 40: document 01, refusal 2. Assumes nothing.
 use Rattle.std.specs.Prelude as Code
-use Rattle.std.specs.Prelude.{ℕ, Bool, cond, List, length, nat_lt, None, Some, Float}
+use Rattle.std.specs.Prelude.{Bool, cond, List, length, nat_lt, None, Some, Float}
 use Rattle.std.proofs.Math.Option.{Option, none, some}
 use Rattle.std.specs.Float.Ieee.{neg, lt}
 use Rattle.lists.specs.Lists.{filled}
 use Rattle.float_widths.specs.Narrow.{narrow_of}
 use Rattle.float_sine.specs.Sine.{sin_of, cos_of}
 use Rattle.float_sine.specs.declared.SinCos.{SinCos}
-use Rattle.vector.specs.Speakers.{speakers_in}
+use Rattle.vector.specs.declared.Speaker.{Speaker}
 use Rattle.angle_sort.specs.declared.Spot.{Spot}
 use Rattle.layout_planar.specs.declared.Law.{Law}
 use Rattle.layout_planar.specs.declared.Law.TheVariants.{Crossfade}
@@ -32,8 +32,8 @@ unfoldable pub told_of : Option PlanarPair → Code.Option PlanarPair
 told_of none = None
 told_of (some p) = Some p
 
--- the layout's pairs and their count, of n active speakers in two flat arrays
-unfoldable pub planar_in : ℕ → List ℕ → List Float → Planar
-planar_in n out flat =
-    let l = pairs_of (speakers_in n out flat) in
+-- the layout's pairs and their count
+unfoldable pub planar_in : List Speaker → Planar
+planar_in act =
+    let l = pairs_of act in
     record { pairs = filled 40 no_pair l; num_pairs = length l }

@@ -1,12 +1,8 @@
--- `ActiveSpeakers::none` meets its contract: arrays of 0 and +0 hold no speaker. Assumes nothing.
-use lib.Ieee.{of_bits}
-use Rattle.layout_new.proofs.Speakers.{none_held, none_speakers}
+-- `ActiveSpeakers::none` meets its contract: of no speaker each has a slot below 40. Assumes nothing.
+use Rattle.std.proofs.Common.{refl, arith}
+use Rattle.lists.specs.Lists.{every}
 use Rattle.layout_new.proofs.active.ActiveSpeakers.none.Goals as goal
 
 pub invariant_of-result : goal.invariant_of-result
-unfolding of_bits
-invariant_of-result c = none_held
-
-pub returns : goal.returns
-unfolding of_bits
-returns c = none_speakers
+unfolding every
+invariant_of-result c = (omega arith, refl)
