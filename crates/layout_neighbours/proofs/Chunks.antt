@@ -43,7 +43,7 @@ low_triples (i ∷ (j ∷ (k ∷ l))) nreal ps = (
 pub record Walked (slots idx rest : List ℕ) (size : ℕ) (before after : Arrays) : Type 0 where
   pub three : size ≡ 3
   pub low : Points rest (length slots)
-  pub leads : (r : Reach) → Holds (length slots) r before → (q : Reach) × Holds (length slots) q after × (pass slots (triples_of rest) q ≡ pass slots (triples_of idx) r)
+  pub leads : (r : Reach) → Holds r before → (q : Reach) × Holds q after × (pass slots (triples_of rest) q ≡ pass slots (triples_of idx) r)
 
 module _ {slots idx rest : List ℕ} {size : ℕ} {before : Arrays} where
   pub walked_start : Points idx (length slots) → size ≡ 3 → rest ≡ idx → Walked slots idx rest size before before
@@ -51,7 +51,7 @@ module _ {slots idx rest : List ℕ} {size : ℕ} {before : Arrays} where
 
   module _ {after : Arrays} (w : Walked slots idx rest size before after) where
     -- all are done
-    pub walked_all : length rest < size → Leads (length slots) (pass slots (triples_of idx)) before after
+    pub walked_all : length rest < size → Leads (pass slots (triples_of idx)) before after
     unfolding pass
     walked_all h r k =
         let q = w.leads r k in
@@ -62,7 +62,7 @@ module _ {slots idx rest : List ℕ} {size : ℕ} {before : Arrays} where
       pub next_low : Points t (length slots)
       next_low k h = let g = w.low k (omega (arith, ap length e, length-append t more)) in rw (e, get_or-append t more 0 k h) at g
 
-      pub walked_on : {size' : ℕ} {then : Arrays} → size' ≡ size → Leads (length slots) (λ r. across slots r t) after then → Walked slots idx more size' before then
+      pub walked_on : {size' : ℕ} {then : Arrays} → size' ≡ size → Leads (λ r. across slots r t) after then → Walked slots idx more size' before then
       unfolding pass
       walked_on s leads = record {
         three = s ∙ w.three;

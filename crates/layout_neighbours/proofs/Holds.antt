@@ -3,6 +3,8 @@ use Prim.Native.Nat.{ℕ, ◌+◌, ◌≤◌, ◌<◌, zero-le}
 use mathlib.Core.Path.{◌≡◌, refl, sym, ap, ◌∙◌}
 use mathlib.Core.Bool.{Bool, true, false, ◌||◌}
 use mathlib.Core.List.{List, [], ◌∷◌, ◌++◌}
+use mathlib.Core.Logic.{∥∥₁_elim, ∥∥₁_map}
+use native.Mathlib.Bridge.{le_prop}
 use native.Mathlib.Omega.{arith}
 use borrow.Author.Tests.{eq-eqb, ne_eqb, eqb-true, eqb-false}
 use lib.Dec.{eqb}
@@ -13,7 +15,7 @@ use Rattle.lists.proofs.Filled.{length_filled, take_filled, set_filled_at}
 use Rattle.lists.proofs.Tests.{or_right, or_none, empty_length}
 use Rattle.lists.proofs.Once.{member_snoc}
 use Rattle.layout_neighbours.specs.Neighbours.{Reach, reach}
-use Rattle.layout_neighbours.specs.Inner.Search.{Among, Arrays, Holds, Slots}
+use Rattle.layout_neighbours.specs.Inner.Search.{Among, Arrays, Holds, Held, Leads, Slots}
 use Rattle.layout_neighbours.proofs.Among.{among_snoc, among_few}
 use Rattle.layout_neighbours.proofs.Reaches.{with_slot, with_point, reach_listed, reach_found, reach_seen, reach_late, reach_visits}
 
@@ -22,20 +24,20 @@ pub slots : {out : List ℕ} → length out ≤ 40 → ((k : ℕ) → k < length
 slots few low = record { few = few; low = low }
 
 -- the arrays with a slot stored, and with a point marked
-abbrev stored : Arrays → ℕ → Arrays
+abbrev pub stored : Arrays → ℕ → Arrays
 stored a s = record { visited = a.visited; nbrs = set a.nbrs a.found s; seen = a.seen; found = a.found + 1 }
 
-abbrev marked : Arrays → ℕ → Arrays
+abbrev pub marked : Arrays → ℕ → Arrays
 marked a p = record { visited = set a.visited p true; nbrs = a.nbrs; seen = a.seen + 1; found = a.found }
 
-module _ {nreal : ℕ} {r : Reach} {a : Arrays} (h : Holds nreal r a) where
+module _ {r : Reach} {a : Arrays} (h : Holds r a) where
   -- ---- there is room
 
   pub found_few : a.found ≤ 40
   found_few = omega (arith, among_few 40 0 r.nbrs h.below)
 
-  pub seen_few : a.seen ≤ 14
-  seen_few = omega (arith, among_few 14 nreal r.visited h.imaginary)
+  pub seen_few : a.seen ≤ 54
+  seen_few = omega (arith, among_few 54 0 r.visited h.points)
 
   pub nbrs_long : length a.nbrs ≡ 40
   nbrs_long = ap length h.slots ∙ length_filled 40 0 r.nbrs (among_few 40 0 r.nbrs h.below)
@@ -56,9 +58,9 @@ module _ {nreal : ℕ} {r : Reach} {a : Arrays} (h : Holds nreal r a) where
     pub room : length r.nbrs < 40
     room = omega (arith, among_few 40 0 (r.nbrs ++ s ∷ []) below_more, length-append r.nbrs (s ∷ []))
 
-    holds_slot : Holds nreal (with_slot r s) (stored a s)
+    holds_slot : Holds (with_slot r s) (stored a s)
     holds_slot = record {
-      imaginary = h.imaginary;
+      points = h.points;
       below = below_more;
       long = h.long;
       marks = h.marks;
@@ -67,7 +69,7 @@ module _ {nreal : ℕ} {r : Reach} {a : Arrays} (h : Holds nreal r a) where
       found = omega (arith, h.found, length-append r.nbrs (s ∷ []));
     }
 
-  module _ (p : ℕ) (low : nreal ≤ p) (high : p < nreal + 14) (top : nreal ≤ 40) (new : member p r.visited ≡ false) where
+  module _ (p : ℕ) (low : p < 54) (new : member p r.visited ≡ false) where
     mark : (q : ℕ) → q < 54 → get_or (set a.visited p true) q false ≡ member q (r.visited ++ p ∷ [])
     mark q g = by (eqb p q) refl ∙ sym (member_snoc q r.visited p)
       where
@@ -78,9 +80,9 @@ module _ {nreal : ℕ} {r : Reach} {a : Arrays} (h : Holds nreal r a) where
         by false e =
             get_or-set_other a.visited p q true false (λ o. eqb-false p q e (sym o)) ∙ h.marks q g ∙ sym (or_none e)
 
-    pub holds_point : Holds nreal (with_point r p) (marked a p)
+    pub holds_point : Holds (with_point r p) (marked a p)
     holds_point = record {
-      imaginary = among_snoc nreal 14 r.visited p h.imaginary new low high;
+      points = among_snoc 0 54 r.visited p h.points new zero-le low;
       below = h.below;
       long = length-set a.visited p true ∙ h.long;
       marks = mark;
@@ -89,35 +91,51 @@ module _ {nreal : ℕ} {r : Reach} {a : Arrays} (h : Holds nreal r a) where
       found = h.found;
     }
 
+-- ---- what is held
+
+module _ {a : Arrays} (h : Held a) where
+  pub front_fits : a.found ≤ length a.nbrs
+  front_fits = ∥∥₁_elim h le_prop (λ k. omega (arith, found_few k.1, nbrs_long k.1))
+
+  pub seen_fits : a.seen ≤ 54
+  seen_fits = ∥∥₁_elim h le_prop (λ k. seen_few k.1)
+
+  pub held_on : {f : Reach → Reach} {b : Arrays} → Leads f a b → Held b
+  held_on {f} leads = ∥∥₁_map h (λ k. (f k.0, leads k.0 k.1))
+
 -- ---- a point, case by case
 
-module _ {out : List ℕ} (s : Slots out) {r : Reach} {a : Arrays} (h : Holds (length out) r a) (p : ℕ) where
+module _ {out : List ℕ} (s : Slots out) {r : Reach} {a : Arrays} (h : Holds r a) (p : ℕ) where
   module _ (real : p < length out) where
     listed : (b : Bool) → member (get_or out p 0) (take a.found a.nbrs) ≡ b → member (get_or out p 0) r.nbrs ≡ b
     listed b e = ap (member (get_or out p 0)) (sym (front h)) ∙ e
 
-    pub holds_listed : member (get_or out p 0) (take a.found a.nbrs) ≡ true → Holds (length out) (reach out r p) a
+    pub holds_listed : member (get_or out p 0) (take a.found a.nbrs) ≡ true → Holds (reach out r p) a
     holds_listed e = rw (reach_listed out r p real (listed true e)) h
 
     module _ (e : member (get_or out p 0) (take a.found a.nbrs) ≡ false) where
       pub room_found : a.found < 40
       room_found = omega (arith, room h (get_or out p 0) (s.low p real) (listed false e), h.found)
 
-      pub holds_found : Holds (length out) (reach out r p) (stored a (get_or out p 0))
+      pub holds_found : Holds (reach out r p) (stored a (get_or out p 0))
       holds_found = rw (reach_found out r p real (listed false e)) (holds_slot h (get_or out p 0) (s.low p real) (listed false e))
 
   module _ (imag : length out ≤ p) where
-    pub holds_late : (a.found ≡ 0 → ⊥) → Holds (length out) (reach out r p) a
+    pub holds_late : (a.found ≡ 0 → ⊥) → Holds (reach out r p) a
     holds_late g = rw (reach_late out r p imag (none_found h ∙ ne_eqb a.found 0 g)) h
 
     module _ (high : p < length out + 14) where
       seen_at : (b : Bool) → get_or a.visited p false ≡ b → member p r.visited ≡ b
       seen_at b e = sym (h.marks p (omega (arith, s.few))) ∙ e
 
-      pub holds_seen : get_or a.visited p false ≡ true → Holds (length out) (reach out r p) a
+      pub holds_seen : get_or a.visited p false ≡ true → Holds (reach out r p) a
       holds_seen e = rw (reach_seen out r p imag (seen_at true e)) h
 
-      pub holds_visited : get_or a.visited p false ≡ false → a.found ≡ 0 → Holds (length out) (reach out r p) (marked a p)
+      pub holds_visited : get_or a.visited p false ≡ false → a.found ≡ 0 → Holds (reach out r p) (marked a p)
       holds_visited e g =
           rw (reach_visits out r p imag (seen_at false e) (none_found h ∙ eq-eqb a.found 0 g))
-          (holds_point h p imag high s.few (seen_at false e))
+          (holds_point h p (omega (arith, s.few)) (seen_at false e))
+
+-- a new slot has room
+pub slot_fits : {out : List ℕ} {a : Arrays} → Slots out → Held a → (p : ℕ) → p < length out → member (get_or out p 0) (take a.found a.nbrs) ≡ false → a.found < 40
+slot_fits s h p g e = ∥∥₁_elim h le_prop (λ k. room_found s k.1 p g e)

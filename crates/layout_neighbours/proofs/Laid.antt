@@ -116,10 +116,6 @@ module _ (l : List ℕ) (ts : List (List ℕ)) where
     few =
         each_map (λ y. length y ≤ 40) (neighbours_of l ts) (from (length l) k) (each_from (λ q. length (neighbours_of l ts q) ≤ 40) (length l) k (λ q g f. neighbours_few l ts q low))
 
-    pub imag_long : k ≤ 14 → length (neighbours_in l ts k).imag_nbrs ≡ 560
-    unfolding neighbours_in lists
-    imag_long h = rows_long 40 0 14 (lists k) few (omega (arith, lists_long k))
-
     pub imag_more : k < 14
         → (neighbours_in l ts (k + 1)).imag_nbrs
         ≡ take (k * 40) (neighbours_in l ts k).imag_nbrs ++ filled 40 0 (neighbours_of l ts (length l + k)) ++ drop (k * 40 + 40) (neighbours_in l ts k).imag_nbrs

@@ -24,7 +24,7 @@ any_listed f (a ∷ l) = ap (λ b. f a || b) (any_listed f l)
 abbrev pub marked_in : List Bool → List ℕ → Bool
 marked_in visited t = any (λ p. get_or visited p false) t
 
-module _ {out : List ℕ} (s : Slots out) {r : Reach} {a : Arrays} (h : Holds (length out) r a) where
+module _ {out : List ℕ} (s : Slots out) {r : Reach} {a : Arrays} (h : Holds r a) where
   meets : (t : List ℕ) → Points t (length out) → any (λ p. member p r.visited) t ≡ marked_in a.visited t
   unfolding any
   meets [] ps = refl
@@ -43,14 +43,14 @@ module _ {out : List ℕ} (s : Slots out) {r : Reach} {a : Arrays} (h : Holds (l
 -- ---- the points that came so far
 
 abbrev pub Reached : List ℕ → List ℕ → ℕ → Arrays → Arrays → Type 0
-Reached out t n before after = Leads (length out) (λ r. foldl (reach out) r (take n t)) before after
+Reached out t n before after = Leads (λ r. foldl (reach out) r (take n t)) before after
 
 module _ (out t : List ℕ) (n : ℕ) {before after : Arrays} (d : Reached out t n before after) where
-  pub reached_more : {then : Arrays} → n < length t → Leads (length out) (λ r. reach out r (get_or t n 0)) after then → Reached out t (n + 1) before then
+  pub reached_more : {then : Arrays} → n < length t → Leads (λ r. reach out r (get_or t n 0)) after then → Reached out t (n + 1) before then
   reached_more h leads r k =
       let e : foldl (reach out) r (take (n + 1) t) ≡ reach out (foldl (reach out) r (take n t)) (get_or t n 0) =
       ap (λ (i : ℕ). foldl (reach out) r (take i t)) (add-one n) ∙ ap (foldl (reach out) r) (take-suc t n 0 h) ∙ foldl_snoc (reach out) r (take n t) (get_or t n 0) in
       rw e (leads _ (d r k))
 
-  pub reached_all : length t ≤ n → Leads (length out) (λ r. foldl (reach out) r t) before after
+  pub reached_all : length t ≤ n → Leads (λ r. foldl (reach out) r t) before after
   reached_all h r k = rw (ap (foldl (reach out) r) (take_all n t h)) at (d r k)

@@ -1,6 +1,7 @@
 -- What the definition of the neighbours amounts to: statements, proved in proofs/Meaning.antt. Document 01, "Layout" ("Neighbours are gathered in `build_hull`'s pass order"); source lines 399 to 430. Assumes nothing.
 use Rattle.std.specs.Prelude.{ℕ, ◌+◌, ◌≤◌, ◌<◌, ◌≡◌, Bool, true, ◌&&◌, List, [], ◌∷◌, ltb, length, get_or}
 use Rattle.lists.specs.Lists.{Once, any, every, member}
+use Rattle.vector.specs.Limits.{max_imaginary}
 use Rattle.layout_neighbours.specs.Neighbours.{passes, neighbours_of}
 
 -- some triplet holds both p and q
@@ -28,13 +29,13 @@ pub record Neighbourhood (out : List ℕ) (tris : List (List ℕ)) (p : ℕ) : T
   pub stand : (s : ℕ) → member s (neighbours_of out tris p) ≡ true → StandsIn out tris p s
   pub own : (q : ℕ) → q < length out → share tris p q ≡ true → member (get_or out q 0) (neighbours_of out tris p) ≡ true
 
--- p is one of the fourteen numbers after the real ones, and the triplets' points are below their end
+-- p is the number of an imaginary point, which follow the real ones, and the triplets' points are below their end
 pub record Placed (out : List ℕ) (tris : List (List ℕ)) (p : ℕ) : Type 0 where
   pub imaginary : length out ≤ p
-  pub few : p < length out + 14
-  pub points : every (every (λ q. ltb q (length out + 14))) tris ≡ true
+  pub few : p < length out + max_imaginary
+  pub points : every (every (λ q. ltb q (length out + max_imaginary))) tris ≡ true
 
--- More passes than fourteen change nothing; there is no neighbour only where no linked point shares a triplet with a real one.
+-- More passes than there may be imaginary points change nothing; there is no neighbour only where no linked point shares a triplet with a real one.
 pub record Complete (out : List ℕ) (tris : List (List ℕ)) (p : ℕ) : Type 0 where
-  pub enough : (n : ℕ) → passes out tris (14 + n) (record { visited = p ∷ []; nbrs = [] }) ≡ passes out tris 14 (record { visited = p ∷ []; nbrs = [] })
+  pub enough : (n : ℕ) → passes out tris (max_imaginary + n) (record { visited = p ∷ []; nbrs = [] }) ≡ passes out tris max_imaginary (record { visited = p ∷ []; nbrs = [] })
   pub none : neighbours_of out tris p ≡ [] → {q : ℕ} → Linked out tris p q → (r : ℕ) → share tris q r ≡ true → length out ≤ r

@@ -3,6 +3,7 @@
 use Rattle.std.specs.Prelude.{ℕ, zero, suc, true, false, ◌&&◌, ◌||◌, not, cond, eqb, ltb, length, get_or}
 use mathlib.Core.List.{List, [], ◌∷◌, ◌++◌, foldl}
 use Rattle.lists.specs.Lists.{any, member, is_empty}
+use Rattle.vector.specs.Limits.{max_imaginary}
 
 -- the points that were visited, and the slots found
 pub record Reach : Type 0 where
@@ -31,6 +32,6 @@ passes out tris (suc n) r =
     let s = pass out tris r in
     elim (not (is_empty s.nbrs) || eqb (length s.visited) (length r.visited)) [ true ↦ s | false ↦ passes out tris n s ]
 
--- Each pass but the last visits one more of the imaginary points. Origin of 14: MAX_IMAGINARY, vbap.rs line 60 and document 01.
+-- Each pass but the last visits one more of the imaginary points.
 unfoldable pub neighbours_of : List ℕ → List (List ℕ) → ℕ → List ℕ
-neighbours_of out tris p = (passes out tris 14 (record { visited = p ∷ []; nbrs = [] })).nbrs
+neighbours_of out tris p = (passes out tris max_imaginary (record { visited = p ∷ []; nbrs = [] })).nbrs

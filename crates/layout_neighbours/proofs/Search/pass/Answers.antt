@@ -1,14 +1,11 @@
 use Rattle.layout_neighbours.proofs.Chunks.{walked_start, walked_all, walked_on, next_low}
-use Rattle.layout_neighbours.proofs.pass.Goals as goal
+use Rattle.layout_neighbours.proofs.Search.pass.Goals as goal
 
 pub loop-t-init : goal.loop-t-init
 loop-t-init c = rw c.into_iter-t-iterator.ensures.into_iter_gives (walked_start c.args.g.points c.chunks_exact-t-items.ensures.size c.chunks_exact-t-items.ensures.rest)
 
-pub across-requires-clause-low : goal.across-requires-clause-low
-across-requires-clause-low c = next_low c.loop-t.invariant _ _ c.in-Some.ensures.steps.1.0 c.in-Some.ensures.steps.1.1
-
-pub across-requires-clause-held : goal.across-requires-clause-held
-across-requires-clause-held c = let q = c.loop-t.invariant.leads _ c.requires.1 in (q.0, q.1)
+pub across-requires : goal.across-requires
+across-requires c = next_low c.loop-t.invariant _ _ c.in-Some.ensures.steps.1.0 c.in-Some.ensures.steps.1.1
 
 pub loop-t-preserved : goal.loop-t-preserved
 loop-t-preserved c =
