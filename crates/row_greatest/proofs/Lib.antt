@@ -1,4 +1,5 @@
 pub mod Places
 pub mod Tops
+pub mod Eights
 pub mod Found
 pub mod Meaning

@@ -33,11 +33,10 @@ fn greatest(l: &[f32]) -> f32
 fn lanes(l: &[f32]) -> [f32; 8]
     ensures { Lanes l.now (length l.now / 8 * 8) result }
 {
-    // by places: each names a lane and a number, and after `iter_mut().zip(..)` a proof knows nothing of the elements
     let mut lanes = [f32::NEG_INFINITY; 8];
-    for i in 0..l.len() / 8 {
-        for k in 0..8 {
-            lanes[k] = greater(lanes[k], l[i * 8 + k]);
+    for eight in l.chunks_exact(8) {
+        for (k, lane) in lanes.iter_mut().enumerate() {
+            *lane = greater(*lane, eight[k]);
         }
     }
     lanes
@@ -53,33 +52,27 @@ fn top(l: &[f32]) -> f32
 
 // ---- its first place
 
-// Whether x is below g or a NaN: the only value that differs from itself, as the definition says it.
+// Whether x is below g or a NaN.
 #[tactic(auto, unfolding(crate::specs::Inner::Steps::passed))]
 fn is_passed(x: f32, g: f32) -> bool
     ensures { result ≡ passed g x }
 {
-    (x < g) | (x != x)
+    (x < g) | x.is_nan()
 }
 
-// Whether the eight numbers from t on are passed. Without an exit, so that they are compared at once; by places, of which the promise speaks.
-fn eight_passed(l: &[f32], t: usize, g: f32) -> bool
-    requires { t + 8 ≤ length l.now }
-    ensures { result ≡ true → AllPassed g l.now t (t + 8) }
+// Whether the numbers are passed. Without an exit, so that eight are compared at once: with `all` the search of 80 numbers takes 89 ns in place of 82.
+fn all_passed(l: &[f32], g: f32) -> bool
+    ensures { result ≡ true → AllPassed g l.now 0 (length l.now) }
 {
-    let mut all = true;
-    for k in 0..8 {
-        all = all & is_passed(l[t + k], g);
-    }
-    all
+    l.iter().fold(true, |all, x| all & is_passed(*x, g))
 }
 
-// A place up to which all numbers are passed, found eight at a time.
+// A place up to which all numbers are passed, found eight at a time: where the first eight stand of which one is not, else behind the last eight.
 fn skipped(l: &[f32], g: f32) -> usize
     ensures { (result ≤ length l.now) × AllPassed g l.now 0 result }
 {
-    // the number i is used too, not only as an index
-    for i in 0..l.len() / 8 {
-        if !eight_passed(l, i * 8, g) {
+    for (i, eight) in l.chunks_exact(8).enumerate() {
+        if !all_passed(eight, g) {
             return i * 8;
         }
     }
@@ -90,13 +83,9 @@ fn skipped(l: &[f32], g: f32) -> usize
 fn first_kept(l: &[f32], g: f32) -> Option<usize>
     ensures { FirstKept g l.now (length l.now) (unwrap_or result (length l.now)) }
 {
-    // the number i is used too, not only as an index
-    for i in skipped(l, g)..l.len() {
-        if !is_passed(l[i], g) {
-            return Some(i);
-        }
-    }
-    None
+    let t = skipped(l, g);
+    let found = l[t..].iter().position(|x| !is_passed(*x, g));
+    found.map(|i| t + i)
 }
 
 // The place of the greatest number, the earlier of equals; none where no number is above -infinity.

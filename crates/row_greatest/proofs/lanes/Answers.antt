@@ -1,14 +1,16 @@
-use Rattle.std.proofs.Common.{◌≡◌, ◌+◌, ◌*◌, ◌%◌, arith}
+use Rattle.std.proofs.Common.{arith}
 use lib.Ieee.{of_bits}
-use Rattle.row_greatest.proofs.Tops.{lanes_none, lanes_more}
+use Rattle.row_greatest.proofs.Tops.{lanes_none}
+use Rattle.row_greatest.proofs.Eights.{taken_start, turn_start, turn_more}
 use Rattle.row_greatest.proofs.lanes.Goals as goal
 
-pub loop-i-init : goal.loop-i-init
+pub loop-eight-init : goal.loop-eight-init
 unfolding of_bits
-loop-i-init c = lanes_none c.args.l.now
+loop-eight-init c =
+    rw c.into_iter-eight-iterator.ensures.into_iter_gives (taken_start c.chunks_exact-eight-items.ensures.size c.chunks_exact-eight-items.ensures.rest (lanes_none c.args.l.now))
+
+pub loop-k-init : goal.loop-k-init
+loop-k-init c = turn_start c.loop-eight.invariant _ _ c.in-Some.ensures.steps.1.0 c.in-Some.ensures.steps.1.1 c.in-Some.ensures.steps.0
 
 pub loop-k-preserved : goal.loop-k-preserved
-loop-k-preserved c =
-    let i = c.loop-i.i * 8 + c.loop-k.k in
-    let lane : i % 8 ≡ c.loop-k.k = omega arith in
-    lanes_more c.args.l.now i _ c.loop-k.k c.loop-k.lanes _ (omega arith) lane c.greater.ensures c.loop-k.invariant
+loop-k-preserved c = turn_more c.loop-k.invariant (omega (arith, c.loop-k.invariant.lanes_of.long)) c.greater.ensures

@@ -1,10 +1,9 @@
--- `row_greatest::lanes` meets its contract. The loops' invariants: the numbers passed are in the lanes. Assumes nothing.
-use Rattle.std.proofs.Common.{◌+◌, ◌*◌}
-use Rattle.row_greatest.specs.Inner.Steps.{Lanes}
+-- `row_greatest::lanes` meets its contract. The loops' invariants: the numbers that came are in the lanes. Assumes nothing.
+use Rattle.row_greatest.proofs.Eights.{Taken, Turn}
 use Rattle.row_greatest.proofs.lanes.Given as goal
 
-abbrev pub invariant-loop-i : goal.invariant-loop-i
-invariant-loop-i l = Lanes l.l (l.i * 8) l.lanes
+abbrev pub invariant-loop-eight : goal.invariant-loop-eight
+invariant-loop-eight l = Taken l.l l.eight-iterator.rest.now l.eight-iterator.size l.lanes
 
 abbrev pub invariant-loop-k : goal.invariant-loop-k
-invariant-loop-k l = Lanes l.l (l.i * 8 + l.k) l.lanes
+invariant-loop-k l = Turn l.l l.eight l.eight-iterator.rest.now l.eight-iterator.size l.k l.lane-items

@@ -1,7 +1,7 @@
 -- What the parts of the search promise one another. Origin of 8: two vectors of four 32-bit floats, which the compiler compares at once; the search's result does not depend on it. Assumes nothing.
 use Rattle.std.specs.Prelude.{ℕ, ◌%◌, ◌≤◌, ◌<◌, ◌≡◌, Bool, true, false, ◌||◌, cond, List, ◌⊎◌, length, get_or, Float}
 use Rattle.std.specs.Float.{nan, inf}
-use Rattle.std.specs.Float.Ieee.{lt, ne}
+use Rattle.std.specs.Float.Ieee.{is_nan, lt}
 
 -- ---- the greatest number
 
@@ -38,7 +38,7 @@ pub record Lanes (l : List Float) (n : ℕ) (lanes : List Float) : Type 0 where
 
 -- below g or a NaN
 unfoldable pub passed : Float → Float → Bool
-passed g x = lt x g || ne x x
+passed g x = lt x g || is_nan x
 
 abbrev pub AllPassed : Float → List Float → ℕ → ℕ → Type 0
 AllPassed g l a b = (j : ℕ) → a ≤ j → j < b → passed g (get_or l j nan) ≡ true
