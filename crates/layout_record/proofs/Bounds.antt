@@ -1,4 +1,4 @@
--- Laws of `any`: as std has it, and of parts of a list of which none passes. Assumes nothing.
+-- Laws of `any`: of parts of a list of which none passes. Assumes nothing.
 use borrow.Author.Tests.{not-true}
 use Prim.Native.Nat.{ℕ, ◌+◌, ◌<◌}
 use mathlib.Core.Path.{◌≡◌, refl, sym, ap, ◌∙◌}
@@ -6,18 +6,11 @@ use mathlib.Core.Bool.{Bool, true, false, not, ◌||◌}
 use mathlib.Core.List.{List, [], ◌∷◌, flat_map}
 use native.Mathlib.Omega.{arith}
 use lib.ListN.{take}
-use Rattle.std.specs.List.{list_any}
 use Rattle.std.proofs.lemmas.List.Folds.{list_any_at}
 use Rattle.lists.specs.Lists.{every, any, part, range, from}
 use Rattle.lists.proofs.Collect.{flat_map_snoc}
 use Rattle.lists.proofs.Ranges.{range_snoc, length_range, get_d_range}
 use Rattle.lists.proofs.Tests.{every_none, every_take, every_part, any_append, any_never, any_flat_map, neither}
-
-module _ {A : Type 0} (f : A → Bool) where
-  pub any_is : (l : List A) → list_any f l ≡ any f l
-  unfolding any
-  any_is [] = refl
-  any_is (a ∷ l) = ap (λ (b : Bool). f a || b) (any_is l)
 
 -- where no element passes a test, each passes one that follows from that
 pub every_if_none : {A : Type 0} {f g : A → Bool} → ((a : A) → f a ≡ false → g a ≡ true) → (l : List A) → any f l ≡ false → every g l ≡ true

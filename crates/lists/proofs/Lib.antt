@@ -8,3 +8,4 @@ pub mod Search
 pub mod Ends
 pub mod Once
 pub mod Rows
+pub mod Made

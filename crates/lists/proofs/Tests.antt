@@ -1,4 +1,4 @@
--- Laws of tests: of two Bools; of `every` and `any` over `++`, over parts of a list, by one another, and at a turn of a loop over the first n elements; of `is_empty`. Assumes nothing.
+-- Laws of tests: of two Bools; of `any` and std's test of a list; of `every` and `any` over `++`, over parts of a list, by one another, and at a turn of a loop over the first n elements; of `is_empty`. Assumes nothing.
 use Prim.Native.Nat.{zero, ℕ, suc, ◌+◌, ◌*◌, ◌≤◌, ◌<◌}
 use mathlib.Core.Path.{◌≡◌, refl, sym, ap, ◌∙◌}
 use mathlib.Core.Bool.{Bool, true, false, ◌&&◌, ◌||◌, cond, and_assoc, and-true}
@@ -11,6 +11,7 @@ use lib.Dec.{eqb}
 use lib.ListN.{length, get_or, take, drop, drop_of_length-le}
 use lib.Seq.{drop-cons, get_or-take, length-take-le}
 use borrow.Author.Tests.{ne_eqb}
+use Rattle.std.specs.List.{list_any}
 use Rattle.lists.specs.Lists.{every, any, is_empty, part}
 
 -- ---- two Bools
@@ -99,6 +100,12 @@ module _ {A : Type 0} (f : A → Bool) where
   pub every_snoc : (l : List A) (a : A) → every f (l ++ a ∷ []) ≡ every f l && f a
   unfolding every
   every_snoc l a = every_append l (a ∷ []) ∙ ap (λ (b : Bool). every f l && b) (and-true (f a))
+
+  -- std's test of a list and ours are one
+  pub any_is : (l : List A) → list_any f l ≡ any f l
+  unfolding any
+  any_is [] = refl
+  any_is (a ∷ l) = ap (λ (b : Bool). f a || b) (any_is l)
 
   pub any_append : (l m : List A) → any f (l ++ m) ≡ any f l || any f m
   unfolding any

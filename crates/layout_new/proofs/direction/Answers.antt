@@ -1,8 +1,8 @@
 -- `layout_new::direction` meets its contract: an LFE slot has no speaker, any other what `unit` makes of its position. Assumes nothing.
 use Rattle.std.proofs.Common.{◌≡◌, true, false, eqb, sym, ap, ◌∙◌}
 use Rattle.lists.specs.Lists.{member}
+use Rattle.lists.proofs.Tests.{any_is}
 use Rattle.vector.specs.Vector.{unit_of}
-use Rattle.layout_record.proofs.Bounds.{any_is}
 use Rattle.layout_new.specs.Layout.{in_slot}
 use Rattle.layout_new.proofs.Speakers.{lfe_none, not_lfe}
 use Rattle.layout_new.proofs.direction.Goals as goal

@@ -5,8 +5,7 @@ use mathlib.Core.List.{[], ◌∷◌}
 use Rattle.std.proofs.lemmas.Iterator.{YieldsList-from_slice}
 use Rattle.std.proofs.lemmas.Iterator.Search.{any_from_yields_List}
 use Rattle.lists.specs.Lists.{any}
-use Rattle.lists.proofs.Tests.{or_false, any_flat_map}
-use Rattle.layout_record.proofs.Bounds.{any_is}
+use Rattle.lists.proofs.Tests.{or_false, any_is, any_flat_map}
 use Rattle.layout_planar.specs.declared.PlanarPair.{PlanarPair}
 use Rattle.layout_record.proofs.pairs_over.Goals as goal
 
