@@ -1,16 +1,14 @@
 -- Copies of parts: a whole array that is written, or made of a part; parts that are laid one behind another. Assumes nothing.
 use Prim.Native.Nat.{ℕ, zero, suc, ◌+◌, ◌-◌, ◌≤◌, ◌<◌}
-use mathlib.Core.Logic.{inl, inr}
 use mathlib.Core.Path.{◌≡◌, refl, sym, ap, subst, ◌∙◌}
 use mathlib.Core.List.{List, [], ◌∷◌, ◌++◌, map, append_assoc}
 use borrow.Rule.Slice.PartMut.{put_mid, Post-is}
 use denote.Param.Members.{Mut}
-use Rattle.std.specs.Array.{IsFromFnResult, IsFromFnResultFrom}
+use Rattle.std.specs.Array.{IsFromFnResult}
 use Rattle.std.specs.Fn.{Called}
-use Rattle.std.proofs.lemmas.Bool.{cases_eq}
 use Rattle.std.proofs.lemmas.List.{get_or_default}
-use Rattle.lists.specs.Lists.{range}
-use Rattle.lists.proofs.Ranges.{by_places, drop_places}
+use Rattle.lists.proofs.Made.{from_fn_made}
+use Rattle.lists.proofs.Ranges.{drop_places}
 use native.Mathlib.Omega.{arith}
 use lib.ListN.{length, get_or, take, drop, length-append, length-drop}
 use lib.Seq.{take_all, take_at, drop_at, drop-drop, take-append-le, drop-append-le}
@@ -63,25 +61,6 @@ module _ {A : Type 0} where
       pub four_pasted : {r4 w : List A} {b4 n4 : ℕ} → Pasted r3 b4 w n4 r4 → r4 ≡ pasted (pasted (pasted (pasted t b1 x n1) b2 y n2) b3 z n3) b4 w n4
       four_pasted {r4} {w} {b4} {n4} e4 = e4.is ∙ ap (λ (l : List A). pasted l b4 w n4) three_pasted
 
--- ---- an array that a closure makes, which answers h of the place and stays as it is
-
-module _ {A F : Type 0} (d : A) (g : Mut F (ℕ × Unit {0}) A) (h : ℕ → A) (n : ℕ) where
-  made_from : {f : F} (ys : List A) (i k : ℕ) → i + k ≡ n → ((j : ℕ) (r : A) (q : F) → j < n → Called g f (j, tt) r q → (q ≡ f) × (r ≡ h j))
-      → IsFromFnResultFrom g f ys i k → (j : ℕ) → i ≤ j → j < n → get_or ys j d ≡ h j
-  made_from ys i zero e w each j lo hi = absurd (omega arith)
-  made_from {f} ys i (suc k) e w (q, y, at, called, more) j lo hi =
-      let same = w i y q (omega arith) called in
-      let rest = subst (λ (p : F). IsFromFnResultFrom g p ys (i + 1) k) same.0 more in
-      elim (cases_eq j i) [
-        | inl t ↦ rw t (at.1 d ∙ same.1)
-        | inr ne ↦ made_from ys (i + 1) k (omega arith) w rest j (omega arith) hi
-      ]
-
-  pub from_fn_made : {f : F} {ys : List A} → IsFromFnResult g f ys n → ((j : ℕ) (r : A) (q : F) → j < n → Called g f (j, tt) r q → (q ≡ f) × (r ≡ h j)) → ys ≡ map h (range n)
-  from_fn_made {f} {ys} made w =
-      let long : length ys ≡ n = made.long in
-      sym (rw (← long) (by_places ys d h (λ i b. sym (made_from ys 0 n (omega arith) w made.each i (omega arith) (omega arith)))))
-
 -- the closure reads the places of a list from `at` on
 module _ {A F : Type 0} (g : Mut F (ℕ × Unit {0}) A) (from : List A) (at : ℕ) where
   pub section_made : (n : ℕ) {f : F} {ys : List A} → at + n ≤ length from → IsFromFnResult g f ys n
@@ -93,6 +72,6 @@ module _ {A F : Type 0} (g : Mut F (ℕ × Unit {0}) A) (from : List A) (at : �
       none (x ∷ l) e = absurd (omega arith)
   section_made (suc n) {f} {ys} h made w =
       let d = made.each.1 in
-      from_fn_made d g (λ j. get_or from (at + j) d) (suc n) made
+      from_fn_made g (λ j. get_or from (at + j) d) made
       (λ j r q b k. let p = w j r q b k in (p.0, p.1 ∙ get_or_default from (at + j) r d (omega arith)))
       ∙ sym (drop_places from d at (suc n) h)
