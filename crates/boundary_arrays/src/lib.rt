@@ -12,15 +12,14 @@ ghost use Rattle.mix_gain.specs.Mixed.{normalized_lerp_gain_of};
 ghost use Rattle.lists.specs.Lists.{range};
 ghost use Rattle.boundary_arrays.specs.Arrays.{at, Filled};
 
-// The first n places of dst, each what f answers at it; the others stay. n is the length of the shortest of the caller's slices.
-fn fill_by<T: Copy, F: Fn(usize) -> T>(dst: &mut [T], n: usize, f: F)
-    requires room { n ≤ length dst.old }
-    requires callable { (i : ℕ) → i < n → F.pre f i }
+// Each place of dst, by what f answers at it.
+fn fill_by<T: Copy, F: Fn(usize) -> T>(dst: &mut [T], f: F)
+    requires { (i : ℕ) → i < length dst.old → F.pre f i }
     // whatever g says of f's answers
-    ensures { (g : ℕ → T) → ((i : ℕ) (y : T) → i < n → F.post f i y → y ≡ g i) → dst.new ≡ map g (range n) ++ drop n dst.old }
+    ensures { (g : ℕ → T) → ((i : ℕ) (y : T) → i < length dst.old → F.post f i y → y ≡ g i) → dst.new ≡ map g (range (length dst.old)) }
 {
-    for i in 0..n {
-        dst[i] = f(i);
+    for (i, place) in dst.iter_mut().enumerate() {
+        *place = f(i);
     }
 }
 
@@ -28,21 +27,21 @@ pub fn narrow_all(src: &[f64], dst: &mut [f32])
     ensures { Filled (min (length src.now) (length dst.old)) (λ i. narrow_of (at src.now i)) dst.old dst.new }
 {
     let n = src.len().min(dst.len());
-    fill_by(dst, n, |i| float_widths::narrow(src[i]));
+    fill_by(&mut dst[..n], |i| float_widths::narrow(src[i]));
 }
 
 pub fn sqrt32_all(src: &[f32], dst: &mut [f32])
     ensures { Filled (min (length src.now) (length dst.old)) (λ i. sqrt_of binary32 (at src.now i)) dst.old dst.new }
 {
     let n = src.len().min(dst.len());
-    fill_by(dst, n, |i| float_root::sqrt32(src[i]));
+    fill_by(&mut dst[..n], |i| float_root::sqrt32(src[i]));
 }
 
 pub fn sqrt64_all(src: &[f64], dst: &mut [f64])
     ensures { Filled (min (length src.now) (length dst.old)) (λ i. sqrt_of binary64 (at src.now i)) dst.old dst.new }
 {
     let n = src.len().min(dst.len());
-    fill_by(dst, n, |i| float_root::sqrt64(src[i]));
+    fill_by(&mut dst[..n], |i| float_root::sqrt64(src[i]));
 }
 
 // Sine and cosine of each value. By the place: one call gives both, and after `iter_mut().zip(..)` a proof knows nothing of the elements.
@@ -63,7 +62,7 @@ pub fn atan2_all(y: &[f64], x: &[f64], dst: &mut [f64])
     ensures { Filled (min (length y.now) (min (length x.now) (length dst.old))) (λ i. atan2_of (at y.now i) (at x.now i)) dst.old dst.new }
 {
     let n = y.len().min(x.len().min(dst.len()));
-    fill_by(dst, n, |i| float_arctangent::atan2(y[i], x[i]));
+    fill_by(&mut dst[..n], |i| float_arctangent::atan2(y[i], x[i]));
 }
 
 // The mixed gain of each four numbers.
@@ -75,8 +74,7 @@ pub fn normalized_lerp_gain_all(from: &[f32], to: &[f32], dot: &[f32], t: &[f32]
         .min(to.len())
         .min(dot.len().min(t.len()).min(dst.len()));
     fill_by(
-        dst,
-        n,
+        &mut dst[..n],
         |i| mix_gain::normalized_lerp_gain(from[i], to[i], dot[i], t[i]),
     );
 }

@@ -1,5 +1,3 @@
-use mathlib.Core.Path.{◌≡◌}
-use native.Mathlib.Omega.{arith}
 use Rattle.boundary_arrays.proofs.Filling.{filled_none, filled_more}
 use Rattle.boundary_arrays.proofs.fill_by.Goals as goal
 
@@ -8,9 +6,4 @@ loop-i-init g c = λ h w. filled_none h c.args.dst.now
 
 pub loop-i-preserved : goal.loop-i-preserved
 loop-i-preserved g c =
-    λ h w. filled_more h c.args.dst.now c.loop-i.dst c.loop-i.i c.f.result (omega (arith, c.requires.room)) (w c.loop-i.i c.f.result c.loop-i-test.true c.f.ensures) (c.loop-i.invariant h w)
-
-pub returns : goal.returns
-returns g c =
-    let e : c.loop-i.i ≡ c.args.n = omega arith in
-    λ h w. rw (← e) (c.loop-i.invariant h w)
+    λ h w. filled_more h c.args.dst.now c.loop-i.dst c.loop-i.i c.f.result c.loop-i-test.true (w c.loop-i.i c.f.result c.loop-i-test.true c.f.ensures) (c.loop-i.invariant h w)
