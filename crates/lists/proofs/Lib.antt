@@ -9,3 +9,4 @@ pub mod Ends
 pub mod Once
 pub mod Rows
 pub mod Made
+pub mod Chunks
