@@ -1,16 +1,16 @@
--- Laws of `known`, at a turn of the loop over the pairs, and what is no record is malformed. Assumes nothing.
+-- Laws of `known`, by the kind and by each pair's three bytes, and what is no record is malformed. Assumes nothing.
 use Prim.Native.Nat.{ℕ, ◌+◌, ◌*◌, ◌≤◌, ◌<◌}
-use mathlib.Core.Path.{◌≡◌, refl, sym, ap}
+use mathlib.Core.Path.{◌≡◌, refl, ◌∙◌}
 use mathlib.Core.Bool.{Bool, true, false}
-use mathlib.Core.List.{List}
+use mathlib.Core.List.{List, [], ◌∷◌, map}
 use native.Mathlib.Omega.{arith}
 use borrow.Author.Tests.{lt-ltb, le-ltb}
 use lib.Dec.{ltb}
-use lib.ListN.{get_or, take, drop}
-use lib.Seq.{take_all}
+use lib.ListN.{get_or}
+use Rattle.std.specs.List.{list_all}
 use Rattle.lists.specs.Lists.{range, every}
-use Rattle.lists.proofs.Ranges.{length_range, get_d_range}
-use Rattle.lists.proofs.Tests.{every_no, every_yes, every_end, every_always}
+use Rattle.lists.proofs.Chunks.{all_is}
+use Rattle.lists.proofs.Tests.{every_map, every_always}
 use Rattle.layout_record.specs.Malformed.{counts_over, malformed_of}
 use Rattle.session_calls.specs.Session.{malformed_by}
 use Rattle.boundary_records.specs.Places.{most_outputs}
@@ -21,10 +21,6 @@ use Rattle.boundary_records.specs.Meaning.{UnknownMalformed}
 pub law_known : List ℕ → ℕ → Bool
 law_known bytes i = ltb (get_or bytes (i * 3 + 2) 0) 2
 
--- the laws from pair i on are known
-pub laws_from : List ℕ → ℕ → Bool
-laws_from bytes i = every (law_known bytes) (drop i (take most_outputs (range most_outputs)))
-
 pub kind_unknown : (kind : ℕ) (bytes : List ℕ) → 3 < kind → known kind bytes ≡ false
 unfolding known
 kind_unknown kind bytes h = rw (le-ltb kind 4 (omega arith))
@@ -33,29 +29,17 @@ pub kind_known : (kind : ℕ) (bytes : List ℕ) → kind ≤ 3 → known kind b
 unfolding known law_known
 kind_known kind bytes h = rw (lt-ltb kind 4 (omega arith))
 
-pub laws_all : (bytes : List ℕ) → every (law_known bytes) (range most_outputs) ≡ laws_from bytes 0
-unfolding laws_from
-laws_all bytes = ap (every (law_known bytes)) (sym (take_all most_outputs (range most_outputs) (omega (arith, length_range most_outputs))))
+-- each law by its pair's three bytes
+pub laws_tested : (bytes : List ℕ) → list_all (λ pair. ltb (get_or pair 2 0) 2) (map (λ t. get_or bytes (t * 3) 0 ∷ get_or bytes (t * 3 + 1) 0 ∷ get_or bytes (t * 3 + 2) 0 ∷ []) (range most_outputs))
+    ≡ every (law_known bytes) (range most_outputs)
+unfolding law_known
+laws_tested bytes =
+    let three : ℕ → List ℕ = λ t. get_or bytes (t * 3) 0 ∷ get_or bytes (t * 3 + 1) 0 ∷ get_or bytes (t * 3 + 2) 0 ∷ [] in
+    all_is (λ pair. ltb (get_or pair 2 0) 2) (map three (range most_outputs)) ∙ every_map (λ pair. ltb (get_or pair 2 0) 2) three (range most_outputs)
 
 pub laws_known : (bytes : List ℕ) → ((i : ℕ) → get_or bytes (i * 3 + 2) 0 < 2) → every (law_known bytes) (range most_outputs) ≡ true
 unfolding law_known
 laws_known bytes h = every_always (law_known bytes) (λ i. lt-ltb (get_or bytes (i * 3 + 2) 0) 2 (h i)) (range most_outputs)
-
-module _ (bytes : List ℕ) (i : ℕ) where
-  at_place : i < most_outputs → get_or (range most_outputs) i 0 ≡ i
-  at_place h = get_d_range most_outputs i 0 h
-
-  pub law_unknown : i < most_outputs → 1 < get_or bytes (i * 3 + 2) 0 → laws_from bytes i ≡ false
-  unfolding laws_from law_known
-  law_unknown h k = every_no (law_known bytes) (range most_outputs) most_outputs i 0 h (omega (arith, length_range most_outputs)) (rw (at_place h) (le-ltb (get_or bytes (i * 3 + 2) 0) 2 (omega arith)))
-
-  pub law_known_lem : i < most_outputs → get_or bytes (i * 3 + 2) 0 ≤ 1 → laws_from bytes i ≡ laws_from bytes (i + 1)
-  unfolding laws_from law_known
-  law_known_lem h k = every_yes (law_known bytes) (range most_outputs) most_outputs i 0 h (omega (arith, length_range most_outputs)) (rw (at_place h) (lt-ltb (get_or bytes (i * 3 + 2) 0) 2 (omega arith)))
-
-  pub laws_none : most_outputs ≤ i → laws_from bytes i ≡ true
-  unfolding laws_from
-  laws_none h = every_end (law_known bytes) (range most_outputs) most_outputs i h (omega (arith, length_range most_outputs))
 
 -- what is no record is malformed: its outputs are too many
 pub unknown_malformed : UnknownMalformed

@@ -1,5 +1,5 @@
 -- A record's parts, one laid behind another, are its bytes and floats, in front of what stood behind them. Assumes nothing.
-use Prim.Native.Nat.{ℕ, ◌+◌, ◌≤◌}
+use Prim.Native.Nat.{ℕ, ◌+◌}
 use native.Mathlib.Omega.{arith}
 use mathlib.Core.Path.{◌≡◌, refl, sym, ap, ◌∙◌}
 use mathlib.Core.List.{List, [], ◌++◌, append-nil, append_assoc}
@@ -7,10 +7,10 @@ use lib.Ieee.{Float}
 use lib.ListN.{length, take, drop, take-append-drop, drop_of_length-le}
 use lib.Seq.{length-take-le, take_at}
 use Rattle.layout_record.specs.declared.VbapPanner.{VbapPanner}
-use Rattle.boundary_records.specs.Inner.Pasted.{pasted}
+use Rattle.boundary_records.specs.Inner.Pasted.{pasted, Pasted}
 use Rattle.boundary_records.specs.Places.{most_outputs, most_imaginary, head_places, pair_byte_places, slots_at, out_at, idx_at, idx_places, counts_of_nbrs_at, nbrs_at, nbr_places, record_byte_places, pair_float_places, dir_places, inv_at, inv_places, record_float_places}
 use Rattle.boundary_records.specs.Records.{head_of, pair_bytes, pair_numbers, record_bytes, record_floats}
-use Rattle.boundary_records.proofs.Pasted.{laid_behind, length_two}
+use Rattle.boundary_records.proofs.Pasted.{laid_behind, length_two, put_is, two_pasted}
 
 -- the next part
 next : {A : Type 0} (xs ys to : List A) {r : List A} (b n m : ℕ) → r ≡ xs ++ drop b to → length xs ≡ b → length ys ≡ n → b + n ≡ m
@@ -110,11 +110,11 @@ out_floats p to {pn} {f1} e l g =
 
 -- ---- the session's own, behind the record's
 
-module _ {A : Type 0} (to xs ys : List A) (b n m : ℕ) (hb : b ≤ length to) (hx : length xs ≡ n) (hy : length ys ≡ m) (hk : length to ≡ b + n + m) where
-  pub laid_own : {r : List A} → r ≡ pasted (pasted to b xs n) (b + n) ys m → r ≡ take b to ++ (xs ++ ys)
-  laid_own e =
-      let front : length (take b to) ≡ b = length-take-le b to hb in
-      e
+module _ {A : Type 0} (to xs ys : List A) (b n m : ℕ) (hx : length xs ≡ n) (hy : length ys ≡ m) (hk : length to ≡ b + n + m) where
+  pub laid_own : {r1 r2 : List A} → Pasted to b xs (length xs) r1 → Pasted r1 (b + n) ys (length ys) r2 → r2 ≡ take b to ++ (xs ++ ys)
+  laid_own e1 e2 =
+      let front : length (take b to) ≡ b = length-take-le b to (omega arith) in
+      two_pasted (put_is e1 hx) (put_is e2 hy)
       ∙ next (take b to ++ xs) ys to (b + n) m (b + n + m) (next (take b to) xs to b n (b + n) (sym (take-append-drop b to)) front hx refl)
       (length_two (take b to) xs b n (b + n) front hx refl) hy refl
       ∙ ap (λ (l : List A). take b to ++ xs ++ ys ++ l) (drop_of_length-le to {i = b + n + m} (omega arith))

@@ -11,13 +11,14 @@ use session_calls::Session;
 pub fn rows(p: &VbapPanner, az: &[f32], el: &[f32], width: usize, out: &mut [f32])
     ensures { out.new ≡ rows_of p.now az.now el.now width out.old }
 {
+    // by places and not by `chunks_exact_mut(width)`: width may be 0, and after a `zip` with it a proof knows nothing of the elements
     let mut from: usize = 0;
-    for i in 0..az.len().min(el.len()) {
+    for (a, e) in az.iter().zip(el) {
         if out.len() - from < width {
             return;
         }
         let to = from + width;
-        let _ = row_gains::gains(p, az[i], el[i], &mut out[from..to]);
+        let _ = row_gains::gains(p, *a, *e, &mut out[from..to]);
         from = to;
     }
 }
@@ -31,8 +32,8 @@ pub fn place_take_back(
 ) -> Result<(), Refusal>
     ensures { left_beside result s.new ≡ place_take_back s.old source az.now el.now }
 {
-    for i in 0..az.len().min(el.len()) {
-        session_calls::place_on(&mut *s, source, az[i], el[i])?;
+    for (a, e) in az.iter().zip(el) {
+        session_calls::place_on(&mut *s, source, *a, *e)?;
         session_calls::take_back_on(&mut *s, source)?;
     }
     Ok(())

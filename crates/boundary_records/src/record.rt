@@ -3,10 +3,10 @@
 // Its bytes: the head, the pairs' bytes, the slots, the points' slots, the triplets' point numbers, the counts of neighbours, the neighbours.
 // Its floats: the pairs' numbers, the points' directions, the triplets' inverses.
 // Each part begins where the one before ends; specs/Places.antt has the same numbers.
-ghost use Rattle.std.specs.Prelude.{◌≡◌, cond, ◌++◌, map, ◌≤◌, ◌<◌, length, drop};
-ghost use Rattle.lists.specs.Lists.{range};
+ghost use Rattle.std.specs.Prelude.{◌≡◌, ◌*◌, min, cond, List, ◌++◌, map, flat_map, ◌≤◌, ◌<◌, length, take, drop};
+ghost use Rattle.lists.specs.Lists.{range, filled};
 ghost use Rattle.boundary_records.specs.Places.{most_outputs, most_imaginary, head_places, pair_byte_places, slots_at, out_at, idx_at, idx_places, counts_of_nbrs_at, nbrs_at, nbr_places, record_byte_places, pair_float_places, dir_places, inv_at, inv_places, record_float_places};
-ghost use Rattle.boundary_records.specs.Records.{kind_number, head_of, law_numbers, law_number, pair_numbers, pair_bytes, record_bytes, record_floats, kind_from, law_from, pair_from, known, no_record, record_from};
+ghost use Rattle.boundary_records.specs.Records.{kind_number, head_of, law_numbers, law_number, numbers_of, bytes_of, record_bytes, record_floats, kind_from, law_from, pair_from, known, no_record, record_from};
 
 use crate::copies::{put, section};
 use layout_planar::{Law, PlanarPair};
@@ -68,6 +68,11 @@ pub type RecordFloats = [f32; FLOATS];
 // The outputs of arrays with an unknown kind or law: too many, so that every call refuses them with 11. Origin: the greatest byte.
 const NO_RECORD: u8 = 255;
 
+// The numbers of kinds, and of laws, are below these. Origin: `Kind` and `Law` have so many.
+const KINDS: u8 = 4;
+
+const LAWS: u8 = 2;
+
 // ---- written to the arrays
 
 // Silent, mono, planar, hull. Not by `From` and `TryFrom`, here and below: the numbers are the C interface's, and the types other crates'.
@@ -78,13 +83,13 @@ fn kind_number(kind: Kind) -> u8
 }
 
 // Outputs, the kind, the mono slot, and the counts of pairs, slots, real points, triplets and imaginary points.
+#[tactic(auto, unfolding(crate::specs::Records::head_of))]
 fn head_of(p: &VbapPanner) -> [u8; HEAD]
     ensures { result ≡ head_of p.now }
 {
-    let kind = p.kind;
     [
         p.num_outputs,
-        kind_number(kind),
+        kind_number(p.kind),
         p.mono,
         p.num_pairs,
         p.num_slots,
@@ -114,40 +119,40 @@ fn law_number(law: Law) -> u8
     }
 }
 
-// The numbers of the first n pairs, six a pair: start, gap and the law's. All forty places are written, so the array comes whole.
-fn numbers_of(ps: &[PlanarPair; OUTPUTS], n: usize) -> [f32; PAIR_FLOATS]
-    ensures { result ≡ pair_numbers n ps.now }
+// Start, gap and the law's numbers.
+#[tactic(auto, unfolding(crate::specs::Records::numbers_of))]
+fn numbers_of(p: PlanarPair) -> [f32; 6]
+    ensures { result ≡ numbers_of p }
 {
-    let mut to = [0.0f32; PAIR_FLOATS];
-    for i in 0..n.min(OUTPUTS) {
-        let p = ps[i];
-        let law = p.law;
-        let v = law_numbers(law);
-        let k = i * 6;
-        to[k] = p.start;
-        to[k + 1] = p.gap;
-        to[k + 2] = v[0];
-        to[k + 3] = v[1];
-        to[k + 4] = v[2];
-        to[k + 5] = v[3];
-    }
+    let [m0, m1, m2, m3] = law_numbers(p.law);
+    [p.start, p.gap, m0, m1, m2, m3]
+}
+
+// Both slots and the law's number.
+#[tactic(auto, unfolding(crate::specs::Records::bytes_of))]
+fn bytes_of(p: PlanarPair) -> [u8; 3]
+    ensures { result ≡ bytes_of p }
+{
+    [p.a, p.b, law_number(p.law)]
+}
+
+// The entries of each pair, one pair behind another, and blanks behind them.
+fn laid<T: Copy, const W: usize, const N: usize>(pairs: &[[T; W]], blank: T) -> [T; N]
+    requires { length pairs.now * W ≤ N }
+    ensures { result ≡ filled N blank (flat_map (λ entries. entries) pairs.now) }
+{
+    let mut to = [blank; N];
+    put(pairs.as_flattened(), &mut to, 0);
     to
 }
 
-// The slots of the first n pairs and the law's number, three bytes a pair.
-fn bytes_of(ps: &[PlanarPair; OUTPUTS], n: usize) -> [u8; PAIR_BYTES]
-    ensures { result ≡ pair_bytes n ps.now }
+// How many pairs are in use. A record made by hand may count more than there are.
+fn used(p: &VbapPanner) -> usize
+    ensures count { result ≡ min p.now.num_pairs most_outputs }
+    ensures long { length p.now.pairs ≡ most_outputs }
 {
-    let mut to = [0u8; PAIR_BYTES];
-    for i in 0..n.min(OUTPUTS) {
-        let p = ps[i];
-        let law = p.law;
-        let k = i * 3;
-        to[k] = p.a;
-        to[k + 1] = p.b;
-        to[k + 2] = law_number(law);
-    }
-    to
+    let pairs: &[PlanarPair] = &p.pairs;
+    usize::from(p.num_pairs).min(pairs.len())
 }
 
 // The record's bytes, part after part.
@@ -157,7 +162,8 @@ fn put_bytes(p: &VbapPanner, to: &mut [u8])
     ensures long { length (record_bytes p.now) ≡ record_byte_places }
 {
     put(&head_of(p), to, 0);
-    put(&bytes_of(&p.pairs, p.num_pairs as usize), to, HEAD);
+    let pairs: [u8; PAIR_BYTES] = laid(&p.pairs.map(bytes_of)[..used(p)], 0);
+    put(&pairs, to, HEAD);
     put(&p.slots, to, SLOTS_AT);
     put(&p.pt_out, to, OUT_AT);
     put(&p.idx, to, IDX_AT);
@@ -171,7 +177,8 @@ fn put_floats(p: &VbapPanner, to: &mut [f32])
     ensures to_after { to.new ≡ record_floats p.now ++ drop record_float_places to.old }
     ensures long { length (record_floats p.now) ≡ record_float_places }
 {
-    put(&numbers_of(&p.pairs, p.num_pairs as usize), to, 0);
+    let pairs: [f32; PAIR_FLOATS] = laid(&p.pairs.map(numbers_of)[..used(p)], 0.0);
+    put(&pairs, to, 0);
     put(&p.pt_dir, to, PAIR_FLOATS);
     put(&p.inv, to, INV_AT);
 }
@@ -215,15 +222,7 @@ fn law_from(n: u8, m0: f32, m1: f32, m2: f32, m3: f32) -> Law
 fn known(kind: u8, bytes: &[u8; PAIR_BYTES]) -> bool
     ensures { result ≡ known kind bytes.now }
 {
-    if kind > 3 {
-        return false;
-    }
-    for i in 0..OUTPUTS {
-        if bytes[i * 3 + 2] > 1 {
-            return false;
-        }
-    }
-    true
+    kind < KINDS && bytes.chunks_exact(3).all(|pair| pair[2] < LAWS)
 }
 
 // The outputs, where kind and laws are known. A number and no Option: `taken_in` promises a record for any arrays.
@@ -234,25 +233,19 @@ fn outputs_from(is_known: bool, n: u8) -> u8
 }
 
 // Pair i: six numbers, start, gap and the law's, and three bytes, both slots and the law.
+#[tactic(auto, unfolding(crate::specs::Records::pair_from))]
 fn pair_from(numbers: &[f32; PAIR_FLOATS], bytes: &[u8; PAIR_BYTES], i: usize) -> PlanarPair
     requires { i < most_outputs }
     ensures { result ≡ pair_from numbers.now bytes.now i }
 {
-    let k = i * 6;
-    let j = i * 3;
-    let law = law_from(
-        bytes[j + 2],
-        numbers[k + 2],
-        numbers[k + 3],
-        numbers[k + 4],
-        numbers[k + 5],
-    );
+    let [start, gap, m0, m1, m2, m3]: [f32; 6] = section(numbers, i * 6);
+    let [a, b, law]: [u8; 3] = section(bytes, i * 3);
     PlanarPair {
-        start: numbers[k],
-        gap: numbers[k + 1],
-        a: bytes[j],
-        b: bytes[j + 1],
-        law,
+        start,
+        gap,
+        a,
+        b,
+        law: law_from(law, m0, m1, m2, m3),
     }
 }
 
@@ -264,38 +257,29 @@ fn pairs_from(numbers: &[f32; PAIR_FLOATS], bytes: &[u8; PAIR_BYTES]) -> [Planar
 }
 
 // The record in the first places of the arrays; one with too many outputs where the kind or a law is unknown.
+// Slices, here and in `hand_out`: a session's arrays are longer, and begin with the record's places.
+#[tactic(auto, unfolding(crate::specs::Records::record_from))]
 pub fn taken_in(bytes: &[u8], floats: &[f32]) -> VbapPanner
     requires { (record_byte_places ≤ length bytes.now) × (record_float_places ≤ length floats.now) }
     ensures { result ≡ record_from bytes.now floats.now }
 {
     let pair_bytes = section(bytes, HEAD);
-    let pair_numbers = section(floats, 0);
-    let num_outputs = outputs_from(known(bytes[1], &pair_bytes), bytes[0]);
-    let kind = kind_from(bytes[1]);
-    let pairs = pairs_from(&pair_numbers, &pair_bytes);
-    let slots = section(bytes, SLOTS_AT);
-    let pt_out = section(bytes, OUT_AT);
-    let pt_dir = section(floats, PAIR_FLOATS);
-    let idx = section(bytes, IDX_AT);
-    let inv = section(floats, INV_AT);
-    let num_nbrs = section(bytes, NUM_NBRS_AT);
-    let imag_nbrs = section(bytes, NBRS_AT);
     VbapPanner {
-        num_outputs,
-        kind,
+        num_outputs: outputs_from(known(bytes[1], &pair_bytes), bytes[0]),
+        kind: kind_from(bytes[1]),
         mono: bytes[2],
         num_pairs: bytes[3],
-        pairs,
+        pairs: pairs_from(&section(floats, 0), &pair_bytes),
         num_slots: bytes[4],
-        slots,
+        slots: section(bytes, SLOTS_AT),
         num_real: bytes[5],
-        pt_out,
-        pt_dir,
+        pt_out: section(bytes, OUT_AT),
+        pt_dir: section(floats, PAIR_FLOATS),
         num_tris: bytes[6],
-        idx,
-        inv,
+        idx: section(bytes, IDX_AT),
+        inv: section(floats, INV_AT),
         num_imag: bytes[7],
-        num_nbrs,
-        imag_nbrs,
+        num_nbrs: section(bytes, NUM_NBRS_AT),
+        imag_nbrs: section(bytes, NBRS_AT),
     }
 }

@@ -13,7 +13,7 @@ ghost use Rattle.boundary_records.specs.Sessions.{session_bytes, session_floats,
 use crate::copies::{put, section};
 use crate::record;
 use mix_block::{GAINS, SOURCES};
-use refusals::Refusal;
+use refusals::{Refusal, number_in};
 use session_calls::Session;
 use session_standing::PLACES;
 
@@ -32,19 +32,16 @@ pub type SessionBytes = [u8; BYTES];
 pub type SessionFloats = [f32; FLOATS];
 
 // The session in the arrays.
+#[tactic(auto, unfolding(crate::specs::Sessions::session_from))]
 pub fn taken_in(bytes: &SessionBytes, floats: &SessionFloats) -> Session
     ensures { result ≡ session_from bytes.now floats.now }
 {
-    let panner = record::taken_in(bytes, floats);
-    let counts = section(bytes, COUNTS_AT);
-    let starts = section(floats, record::FLOATS);
-    let standing = section(floats, STANDING_AT);
     Session {
-        panner,
+        panner: record::taken_in(bytes, floats),
         sources: bytes[record::BYTES],
-        counts,
-        standing,
-        starts,
+        counts: section(bytes, COUNTS_AT),
+        standing: section(floats, STANDING_AT),
+        starts: section(floats, record::FLOATS),
     }
 }
 
@@ -69,6 +66,7 @@ pub fn hand_out(s: &Session, bytes: &mut SessionBytes, floats: &mut SessionFloat
 }
 
 // The answer of a call on the session s that was read from the arrays: its number, and the session's own part where it is accepted. A call leaves the layout as it is.
+#[tactic(auto, unfolding(crate::specs::Sessions::bytes_left, crate::specs::Sessions::floats_left))]
 pub fn leave(
     answer: Result<(), Refusal>,
     s: &Session,
@@ -79,11 +77,8 @@ pub fn leave(
     ensures bytes { bytes.new ≡ bytes_left bytes.old (left_beside answer s.now) }
     ensures floats { floats.new ≡ floats_left floats.old (left_beside answer s.now) }
 {
-    match answer {
-        Ok(()) => {
-            hand_out_own(s, bytes, floats);
-            0
-        }
-        Err(why) => why.number(),
+    if answer.is_ok() {
+        hand_out_own(s, bytes, floats);
     }
+    number_in(&answer)
 }
