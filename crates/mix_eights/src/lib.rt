@@ -30,18 +30,28 @@ pub fn store(d: &mut [f32], i: usize, v: [f32; 8])
     }
 }
 
-// One sample at the gain of its count.
-pub fn sample(d: f32, s: f32, g0: f32, step: f32, count: f32) -> f32
-    ensures { result ≡ sample_of d s g0 step count }
-{
-    d + s * (g0 + step * count)
+// A gain that ramps linearly: g0 at count 0, and step more at each count.
+#[derive(Clone, Copy)]
+pub struct Ramp {
+    pub g0: f32,
+    pub step: f32,
 }
 
-// Eight samples at the gains of their counts.
-pub fn mixed(d: [f32; 8], s: [f32; 8], g0: f32, step: f32, c: [f32; 8]) -> [f32; 8]
-    ensures { result ≡ map (λ k. sample_of (get_or d k nan) (get_or s k nan) g0 step (get_or c k nan)) (range 8) }
-{
-    array::from_fn(|k| sample(d[k], s[k], g0, step, c[k]))
+impl Ramp {
+    // One sample at the gain of its count.
+    #[tactic(auto, unfolding(crate::specs::Inner::Eights::sample_of))]
+    pub fn sample(self, d: f32, s: f32, count: f32) -> f32
+        ensures { result ≡ sample_of d s self.g0 self.step count }
+    {
+        d + s * (self.g0 + self.step * count)
+    }
+
+    // Eight samples at the gains of their counts.
+    pub fn mixed(self, d: [f32; 8], s: [f32; 8], c: [f32; 8]) -> [f32; 8]
+        ensures { result ≡ map (λ k. sample_of (get_or d k nan) (get_or s k nan) self.g0 self.step (get_or c k nan)) (range 8) }
+    {
+        array::from_fn(|k| self.sample(d[k], s[k], c[k]))
+    }
 }
 
 // The counts of the next eight.

@@ -7,6 +7,8 @@ ghost use Rattle.lists.specs.Lists.{range, between};
 ghost use Rattle.mix_ramp.specs.Ramp.{ramp_add_of};
 ghost use Rattle.mix_ramp.specs.Inner.Turns.{steady_turn, ramp_turn};
 
+use mix_eights::Ramp;
+
 // 2^24: up to here every whole number is an f32, and adding 8 to one rounds nothing. Origin: IEEE 754-2019, table 3.5, the 24 digits of binary32.
 const EXACT_COUNTS: usize = 16777216;
 
@@ -23,10 +25,10 @@ fn steady(dst: &mut [f32], src: &[f32], g: f32)
 }
 
 // Samples at moving gains, eight at a time while eight are left and their counts are exact: how many. Origin of 8 and of the first counts, 1 to 8: crate mix_eights; sample i has the count i + 1, vbap.rs line 599.
-fn by_eights(dst: &mut [f32], src: &[f32], g0: f32, step: f32) -> usize
+fn by_eights(dst: &mut [f32], src: &[f32], ramp: Ramp) -> usize
     requires { length dst.old ≡ length src.now }
     ensures within { result ≤ length dst.old }
-    ensures mixed { dst.new ≡ foldl (ramp_turn src.now g0 step) dst.old (range result) }
+    ensures mixed { dst.new ≡ foldl (ramp_turn src.now ramp.g0 ramp.step) dst.old (range result) }
 {
     let turns = dst.len().min(EXACT_COUNTS) / 8;
     let mut c = [1.0, 2.0, 3.0, 4.0, 5.0, 6.0, 7.0, 8.0];
@@ -34,7 +36,8 @@ fn by_eights(dst: &mut [f32], src: &[f32], g0: f32, step: f32) -> usize
         let i = k * 8;
         let s = mix_eights::load(src, i);
         let d = mix_eights::load(&*dst, i);
-        mix_eights::store(&mut *dst, i, mix_eights::mixed(d, s, g0, step, c));
+        mix_eights::store(&mut *dst, i, ramp.mixed(d, s, c));
+        // with a name of its own: the borrow checker does not cover `c = onward(c)`, a call's answer laid in an array that stands
         let next = mix_eights::onward(c);
         c = next;
     }
@@ -42,13 +45,13 @@ fn by_eights(dst: &mut [f32], src: &[f32], g0: f32, step: f32) -> usize
 }
 
 // Samples from `from` on at moving gains, each count rounded once from the whole number.
-fn one_by_one(dst: &mut [f32], src: &[f32], from: usize, g0: f32, step: f32)
+fn one_by_one(dst: &mut [f32], src: &[f32], from: usize, ramp: Ramp)
     requires { (from ≤ length dst.old) × (length dst.old ≡ length src.now) }
-    ensures { dst.new ≡ foldl (ramp_turn src.now g0 step) dst.old (between from (length dst.old)) }
+    ensures { dst.new ≡ foldl (ramp_turn src.now ramp.g0 ramp.step) dst.old (between from (length dst.old)) }
 {
     for i in from..dst.len() {
         let count = float_widths::f32_from_u64((i + 1) as u64);
-        dst[i] = mix_eights::sample(dst[i], src[i], g0, step, count);
+        dst[i] = ramp.sample(dst[i], src[i], count);
     }
 }
 
@@ -65,6 +68,7 @@ pub fn ramp_add(dst: &mut [f32], src: &[f32], g0: f32, g1: f32)
         return;
     }
     let step = (g1 - g0) / float_widths::f32_from_u64(n.max(1) as u64);
-    let done = by_eights(&mut *dst, src, g0, step);
-    one_by_one(dst, src, done, g0, step);
+    let ramp = Ramp { g0, step };
+    let done = by_eights(&mut *dst, src, ramp);
+    one_by_one(dst, src, done, ramp);
 }

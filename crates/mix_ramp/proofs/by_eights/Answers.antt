@@ -9,7 +9,7 @@ use Rattle.mix_ramp.proofs.by_eights.Goals as goal
 pub loop-k-init : goal.loop-k-init
 loop-k-init c =
     let s = c.args in
-    (first_counts, sym (turns_none (ramp_turn s.src.now s.g0 s.step) s.dst.now))
+    (first_counts, sym (turns_none (ramp_turn s.src.now s.ramp.g0 s.ramp.step) s.dst.now))
 
 pub loop-k-preserved : goal.loop-k-preserved
 loop-k-preserved c =
@@ -19,8 +19,8 @@ loop-k-preserved c =
       rw (← e) (c.onward-next.ensures ∙ counts_onward i (omega arith) c.loop-k.invariant.0),
       rw (← e)
           (c.store.ensures
-          ∙ eight_turns s.src.now c.loop-k.dst s.g0 s.step i c.load-s.ensures c.load-d.ensures c.loop-k.invariant.0 c.mixed.ensures
-          ∙ turns_after (ramp_turn s.src.now s.g0 s.step) s.dst.now i (i + 8) (omega arith) c.loop-k.invariant.1),
+          ∙ eight_turns s.src.now c.loop-k.dst s.ramp.g0 s.ramp.step i c.load-s.ensures c.load-d.ensures c.loop-k.invariant.0 c.mixed.ensures
+          ∙ turns_after (ramp_turn s.src.now s.ramp.g0 s.ramp.step) s.dst.now i (i + 8) (omega arith) c.loop-k.invariant.1),
     )
 
 pub returns-clause-mixed : goal.returns-clause-mixed

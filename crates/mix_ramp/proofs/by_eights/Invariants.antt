@@ -8,4 +8,4 @@ use Rattle.mix_ramp.proofs.Counts.{counts_from}
 use Rattle.mix_ramp.proofs.by_eights.Given as goal
 
 abbrev pub invariant-loop-k : goal.invariant-loop-k
-invariant-loop-k l = (l.c ≡ counts_from (l.k * 8)) × (l.dst ≡ foldl (ramp_turn l.src l.g0 l.step) l.initial.dst (range (l.k * 8)))
+invariant-loop-k l = (l.c ≡ counts_from (l.k * 8)) × (l.dst ≡ foldl (ramp_turn l.src l.ramp.g0 l.ramp.step) l.initial.dst (range (l.k * 8)))

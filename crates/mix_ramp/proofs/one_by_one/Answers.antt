@@ -14,7 +14,7 @@ unfolding ramp_turn
 loop-i-preserved c =
     let s = c.args in
     rw (c.sample.ensures, c.f32_from_u64-count.ensures)
-    (turns_more_from (ramp_turn s.src.now s.g0 s.step) s.dst.now s.from c.loop-i.i (omega arith) c.loop-i.invariant)
+    (turns_more_from (ramp_turn s.src.now s.ramp.g0 s.ramp.step) s.dst.now s.from c.loop-i.i (omega arith) c.loop-i.invariant)
 
 pub returns : goal.returns
 returns c =

@@ -6,4 +6,4 @@ use Rattle.mix_ramp.specs.Inner.Turns.{ramp_turn}
 use Rattle.mix_ramp.proofs.one_by_one.Given as goal
 
 abbrev pub invariant-loop-i : goal.invariant-loop-i
-invariant-loop-i l = l.dst ≡ foldl (ramp_turn l.src l.g0 l.step) l.initial.dst (between l.from l.i)
+invariant-loop-i l = l.dst ≡ foldl (ramp_turn l.src l.ramp.g0 l.ramp.step) l.initial.dst (between l.from l.i)
