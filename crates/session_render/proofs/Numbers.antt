@@ -1,11 +1,10 @@
 -- The number of a render, by its tests; and what a render that is not refused has shown. Assumes nothing.
 use Prim.Native.Nat.{ℕ, ◌*◌, ◌≤◌}
-use mathlib.Core.Path.{◌≡◌, refl}
+use mathlib.Core.Path.{◌≡◌, refl, ◌∙◌}
 use mathlib.Core.Bool.{Bool, true, false, not, cond}
 use mathlib.Core.List.{List}
-use native.Mathlib.Nat.{mul-le-mul_right, mul-le-mul_left, le_trans}
 use native.Mathlib.Omega.{arith}
-use borrow.Author.Tests.{ltb-false, eqb-true}
+use borrow.Author.Tests.{ltb-false, eqb-true, eqb-false}
 use lib.Dec.{eqb, ltb}
 use lib.ListN.{length}
 use lib.Ieee.{Float}
@@ -19,10 +18,7 @@ use Rattle.session_calls.specs.Session.{malformed_session, number_of}
 use Rattle.session_calls.specs.declared.Session.{Session}
 use Rattle.session_calls.proofs.Refusals.{formed}
 
--- ---- numbers that fit
-
-pub small_product : (a b : ℕ) → a ≤ row_places → b ≤ longest_block → a * b ≤ row_places * longest_block
-small_product a b h k = le_trans (mul-le-mul_right b h) (mul-le-mul_left row_places k)
+-- ---- what a session that is not malformed has shown
 
 pub outputs_low : (s : Session) → malformed_session s ≡ false → s.panner.num_outputs ≤ row_places
 unfolding malformed_of
@@ -37,6 +33,17 @@ module _ (s : Session) (L : ℕ) (samples outputs : List Float) where
       → number_of s (render L samples outputs) ≡ cond w 11 (cond a 8 (cond b 8 (cond (not c) 9 (cond (not d) 10 0))))
   unfolding number_of
   number_is p q r t u = rw (p, q, r, t, u)
+
+  -- a length that is not 1 to the longest
+  pub number_length : malformed_session s ≡ false → (1 ≤ L → L ≤ longest_block → ⊥) → number_of s (render L samples outputs) ≡ 8
+  number_length m h = number_is m refl refl refl refl ∙ by _ (eqb L 0) (ltb longest_block L) refl refl
+    where
+      by : (n : ℕ) (a b : Bool) → eqb L 0 ≡ a → ltb longest_block L ≡ b → ◌≡◌ {A = ℕ} (cond a 8 (cond b 8 n)) 8
+      by n true b p q = refl
+      by n false true p q = refl
+      by n false false p q =
+          let z = eqb-false L 0 p in
+          absurd (h (omega arith) (ltb-false longest_block L q))
 
 pub record Admitted (s : Session) (L : ℕ) (samples outputs : List Float) : Type 0 where
   pub formed : malformed_session s ≡ false

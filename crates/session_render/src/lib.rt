@@ -11,7 +11,7 @@ ghost use Rattle.session_history.specs.Calls.{render};
 ghost use Rattle.session_calls.specs.Session.{malformed_session, number_of, target, new_start, rendered_buffer};
 ghost use Rattle.session_calls.specs.Answers.{answer_of, answered, left};
 
-use mix_block::{ROW, Starts};
+use mix_block::{Block, ROW, Starts};
 use refusals::Refusal;
 use session_calls::Session;
 use session_standing::WIDTH;
@@ -26,10 +26,7 @@ fn refusal(s: &Session, block: usize, samples: &[f32], outputs: &[f32]) -> Resul
     if session_calls::malformed_session(s) {
         return Err(Refusal::Malformed);
     }
-    if block == 0 {
-        return Err(Refusal::BlockLength);
-    }
-    if block > LONGEST_BLOCK {
+    if !(1..=LONGEST_BLOCK).contains(&block) {
         return Err(Refusal::BlockLength);
     }
     if samples.len() != (s.sources as usize) * block {
@@ -85,15 +82,15 @@ pub fn render_on(
 {
     refusal(&*s, block, samples, &*outputs)?;
     let to = new_starts(&*s);
-    mix_block::mix(
+    let mixed = Block {
         block,
-        s.panner.num_outputs as usize,
-        s.sources as usize,
+        outputs: s.panner.num_outputs as usize,
+        sources: s.sources as usize,
         samples,
-        &s.starts,
-        &to,
-        outputs,
-    );
+        from: &s.starts,
+        to: &to,
+    };
+    mixed.mix(outputs);
     s.starts = to;
     Ok(())
 }

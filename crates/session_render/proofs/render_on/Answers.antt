@@ -27,10 +27,13 @@ returns-in_err-refusal-clause-outputs_after c =
 pub new_starts-to-requires : goal.new_starts-to-requires
 new_starts-to-requires c = (passed (goal.at.new_starts-to-requires c).In_ok-refusal).formed
 
+pub invariant_of-mixed : goal.invariant_of-mixed
+invariant_of-mixed c =
+    let p = passed (goal.at.invariant_of-mixed c).In_ok-refusal in
+    record { row = outputs_low c.args.s.now p.formed; few = (formed c.args.s.now p.formed).few; sampled = p.sampled }
+
 pub mix-requires : goal.mix-requires
-mix-requires c =
-    let p = passed (goal.at.mix-requires c).In_ok-refusal in
-    (outputs_low c.args.s.now p.formed, (formed c.args.s.now p.formed).few, p.sampled, p.lent)
+mix-requires c = (passed (goal.at.mix-requires c).In_ok-refusal).lent
 
 pub returns-clause-value : goal.returns-clause-value
 returns-clause-value c =
@@ -41,5 +44,5 @@ pub returns-clause-outputs_after : goal.returns-clause-outputs_after
 returns-clause-outputs_after c =
     let s = c.args in
     c.mix.ensures
-    ∙ mix_same s.s.now s.block s.samples.now c.new_starts-to.result (outputs_low s.s.now (passed (goal.at.returns-clause-outputs_after c).In_ok-refusal).formed) c.new_starts-to.ensures.gains s.outputs.now
+    ∙ mix_same s.s.now _ refl refl refl c.new_starts-to.ensures.gains s.outputs.now
     ∙ buffer_done s.s.now s.block s.samples.now s.outputs.now c.in_ok-refusal.ensures refl
