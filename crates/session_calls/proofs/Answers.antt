@@ -8,13 +8,18 @@ use borrow.Author.Tests.{eq-eqb, ne_eqb}
 use lib.Ieee.{Float}
 use lib.ListN.{take, drop, replicate}
 use lib.Seq.{sets}
+use Rattle.std.proofs.Common.{Result, Ok, Err}
+use Rattle.std.specs.Result.{IsErrAnd}
+use Rattle.refusals.specs.declared.Refusal.{Refusal}
+use Rattle.refusals.specs.Refusals.{number_of as refusal_number}
 use Rattle.float_order.specs.Values.{+0}
 use Rattle.row_gains.specs.Gains.{finite_or0}
 use Rattle.session_history.specs.Calls.{Call, place, take_back, settle}
 use Rattle.session_history.specs.History.{depth}
 use Rattle.session_calls.specs.Session.{standing_count, number_of, at, stood, with_starts, restood, placed, taken_back, settled, accepted, after}
-use Rattle.session_calls.specs.Answers.{Answer, answer_of}
+use Rattle.session_calls.specs.Answers.{Answer, answer_of, answered, left}
 use Rattle.session_calls.specs.declared.Session.{Session}
+use Rattle.session_calls.proofs.Refusals.{refused}
 
 -- ---- after a call
 
@@ -34,7 +39,7 @@ answer_of_lem s c {n} {t} p q =
     ap (λ (m : ℕ). record { number = m; session = t }) (sym p) ∙ ap (λ (u : Session). record { number = number_of s c; session = u }) (sym q)
 
 module _ (s : Session) (c : Call) {why : ℕ} (w : why ≡ number_of s c) where
-  pub refused_as : (why ≡ 0 → ⊥) → ◌≡◌ {A = Answer} (record { number = why; session = s }) (answer_of s c)
+  refused_as : (why ≡ 0 → ⊥) → ◌≡◌ {A = Answer} (record { number = why; session = s }) (answer_of s c)
   refused_as h = answer_of_lem s c (sym w) (after_refused s c (λ e. h (w ∙ e)))
 
   pub accepted_as : why ≡ 0 → {t : Session} → t ≡ accepted s c → ◌≡◌ {A = Answer} (record { number = 0; session = t }) (answer_of s c)
@@ -42,12 +47,22 @@ module _ (s : Session) (c : Call) {why : ℕ} (w : why ≡ number_of s c) where
       let n : number_of s c ≡ 0 = sym w ∙ z in
       answer_of_lem s c n (after_accepted s c n ∙ sym e)
 
+-- what a call on a lent session answers where it passes a refusal on
+pub left_refused : (s : Session) (c : Call) (r : Result (Unit {0}) Refusal) (why : Refusal) → IsErrAnd r (λ e. e ≡ why) → refusal_number why ≡ number_of s c → left r s ≡ answer_of s c
+left_refused s c (Ok u) why h e = absurd h
+left_refused s c (Err y) why h e = rw h (refused_as s c e (refused why))
+
 -- a call on a lent session that is refused with a number that is not 0: beside the session as it was the answer is the same
-pub refused_left : (s : Session) (c : Call) {why : ℕ} {t : Session} → (why ≡ 0 → ⊥)
+refused_left : (s : Session) (c : Call) {why : ℕ} {t : Session} → (why ≡ 0 → ⊥)
     → ◌≡◌ {A = Answer} (record { number = why; session = t }) (answer_of s c)
     → ◌≡◌ {A = Answer} (record { number = why; session = s }) (answer_of s c)
 unfolding answer_of
 refused_left s c h e = refused_as s c (ap (λ (a : Answer). a.number) e) h
+
+-- and a call by value that passes that refusal on
+pub answered_refused : (s : Session) (c : Call) (r : Result Session Refusal) (why : Refusal) (t : Session) → IsErrAnd r (λ e. e ≡ why) → left (Err why) t ≡ answer_of s c → answered s r ≡ answer_of s c
+answered_refused s c (Ok u) why t h e = absurd h
+answered_refused s c (Err y) why t h e = rw h (refused_left s c (refused why) e)
 
 -- ---- a changed session: the record t of a function, by the list l that it holds
 

@@ -1,6 +1,6 @@
 -- What the numbers of the calls tell: a session that is not malformed has its counts in range, and a call on one source passes what all of them share. Assumes nothing.
 use Prim.Native.Nat.{ℕ, zero, suc, ◌≤◌, ◌<◌}
-use mathlib.Core.Path.{◌≡◌, refl, ap₂}
+use mathlib.Core.Path.{◌≡◌, refl, sym, ap, ap₂}
 use mathlib.Core.Bool.{Bool, true, false, ◌||◌, cond}
 use mathlib.Core.List.{List, [], ◌∷◌}
 use native.Mathlib.Omega.{arith}
@@ -8,7 +8,9 @@ use borrow.Author.Tests.{ltb-false, leb-false, eqb-false, lt-leb, le-ltb}
 use lib.Dec.{eqb, ltb, leb}
 use lib.Ieee.{Float}
 use lib.ListN.{get_or}
+use Rattle.std.proofs.Common.{Result, Ok, Err}
 use Rattle.std.specs.List.{list_any}
+use Rattle.std.specs.Result.{IsErrAnd}
 use Rattle.lists.specs.Lists.{any}
 use Rattle.layout_record.specs.Malformed.{malformed_of}
 use Rattle.lists.proofs.Tests.{neither}
@@ -19,7 +21,7 @@ use Rattle.session_calls.specs.Session.{malformed_by, malformed_session, standin
 use Rattle.session_calls.specs.declared.Session.{Session}
 use Rattle.refusals.specs.declared.Refusal.{Refusal}
 use Rattle.refusals.specs.declared.Refusal.TheVariants.{NotTriples, TooManyPositions, NoSuchCount, TooManyTriplets, NoSuchSource, Full, NoneStands, BlockLength, SampleLength, OutputLength, Malformed}
-use Rattle.refusals.specs.Refusals.{number_of as refusal_number}
+use Rattle.refusals.specs.Refusals.{number_of as refusal_number, number_in}
 
 -- ---- a session that is not malformed, by its depth
 
@@ -79,6 +81,11 @@ refused SampleLength e = omega arith
 refused OutputLength e = omega arith
 refused Malformed e = omega arith
 
+-- a refusal that `?` passes on has the number that it had
+pub number_passed : (r : Result (Unit {0}) Refusal) (why : Refusal) → IsErrAnd r (λ e. e ≡ why) → number_in r ≡ refusal_number why
+number_passed (Ok u) why h = absurd h
+number_passed (Err y) why h = ap refusal_number h
+
 -- ---- the refusals that all calls on one source share
 
 -- what a call on source i has shown once the shared refusals are passed
@@ -92,10 +99,6 @@ module _ (s : Session) (i : ℕ) where
   pub malformed_source : (own : ℕ) → malformed_session s ≡ true → on_source s i own ≡ 11
   unfolding on_source
   malformed_source own m = rw m
-
-  pub no_source : (own : ℕ) → malformed_session s ≡ false → leb s.sources i ≡ true → on_source s i own ≡ 5
-  unfolding on_source
-  no_source own m h = rw (m, h)
 
   pub on_source_lem : (own : ℕ) → malformed_session s ≡ false → leb s.sources i ≡ false → on_source s i own ≡ own
   unfolding on_source
@@ -171,12 +174,28 @@ module _ (s : Session) (i : ℕ) where
   unfolding number_of
   place_passed az el z = (passed s i _ z, leb-false depth (standing_count s i) (room _ (own_passed s i _ z)))
 
-  pub take_passed : number_of s (take_back i) ≡ 0 → Passed s i × (1 ≤ standing_count s i)
+  take_passed : number_of s (take_back i) ≡ 0 → Passed s i × (1 ≤ standing_count s i)
   unfolding number_of
   take_passed z =
       let h : standing_count s i ≡ 0 → ⊥ = eqb-false (standing_count s i) 0 (some _ (own_passed s i _ z)) in
       (passed s i _ z, omega arith)
 
-  pub settle_passed : number_of s (settle i) ≡ 0 → Passed s i
-  unfolding number_of
-  settle_passed z = passed s i _ z
+-- and a call that is not refused, by the number that was returned
+module _ (s : Session) (i : ℕ) where
+  pub shared_source : 0 ≡ on_source s i 0 → i < most_sources
+  shared_source z = (passed s i 0 (sym z)).source
+
+  pub shared_few : 0 ≡ on_source s i 0 → standing_count s i ≤ depth
+  shared_few z = (passed s i 0 (sym z)).few
+
+  pub place_source : (az el : Float) → 0 ≡ number_of s (place i az el) → i < most_sources
+  place_source az el z = (place_passed s i az el (sym z)).0.source
+
+  pub place_room : (az el : Float) → 0 ≡ number_of s (place i az el) → standing_count s i < depth
+  place_room az el z = (place_passed s i az el (sym z)).1
+
+  pub take_source : 0 ≡ number_of s (take_back i) → i < most_sources
+  take_source z = (take_passed s i (sym z)).0.source
+
+  pub take_some : 0 ≡ number_of s (take_back i) → (1 ≤ standing_count s i) × (standing_count s i ≤ depth)
+  take_some z = ((take_passed s i (sym z)).1, (take_passed s i (sym z)).0.few)

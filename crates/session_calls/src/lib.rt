@@ -34,6 +34,7 @@ fn counts_over(counts: &Counts) -> bool
 }
 
 // Whether its layout is malformed, its sources are not 1 to 8, or a standing count is over the depth.
+#[tactic(auto, unfolding(crate::specs::Session::malformed_by))]
 pub fn malformed_session(s: &Session) -> bool
     ensures { result ≡ malformed_session s.now }
 {
@@ -44,6 +45,7 @@ pub fn malformed_session(s: &Session) -> bool
 }
 
 // The refusals that the calls on one source share.
+#[tactic(auto, unfolding(crate::specs::Session::on_source))]
 fn source_refusal(s: &Session, source: usize) -> Result<(), Refusal>
     ensures { number_in result ≡ on_source s.now source 0 }
 {
@@ -57,6 +59,7 @@ fn source_refusal(s: &Session, source: usize) -> Result<(), Refusal>
 }
 
 // What refuses a place: the shared refusals, then a full list. az and el serve the promise alone.
+#[tactic(auto, using(crate::proofs::Refusals::shared_source))]
 pub fn place_refusal(s: &Session, source: usize, az: f32, el: f32) -> Result<(), Refusal>
     ensures { number_in result ≡ number_of s.now (place source az el) }
 {
@@ -68,6 +71,7 @@ pub fn place_refusal(s: &Session, source: usize, az: f32, el: f32) -> Result<(),
 }
 
 // What refuses a take back: the shared refusals, then an empty list.
+#[tactic(auto, using(crate::proofs::Refusals::shared_source))]
 fn take_back_refusal(s: &Session, source: usize) -> Result<(), Refusal>
     ensures { number_in result ≡ number_of s.now (take_back source) }
 {
@@ -90,6 +94,7 @@ pub fn with_starts(s: Session, starts: Starts) -> Session
 // ---- place, take back, settle on a session that is lent: a session is 7.7 KB, and no copy of it is made. An `Err` leaves it as it is.
 
 // Appends a direction.
+#[tactic(auto, using(crate::proofs::Refusals::place_source, crate::proofs::Refusals::place_room))]
 pub fn place_on(s: &mut Session, source: usize, az: f32, el: f32) -> Result<(), Refusal>
     ensures { left result s.new ≡ answer_of s.old (place source az el) }
 {
@@ -103,6 +108,7 @@ pub fn place_on(s: &mut Session, source: usize, az: f32, el: f32) -> Result<(), 
 }
 
 // Removes the last direction, +0 into the freed place.
+#[tactic(auto, using(crate::proofs::Refusals::take_source, crate::proofs::Refusals::take_some))]
 pub fn take_back_on(s: &mut Session, source: usize) -> Result<(), Refusal>
     ensures { left result s.new ≡ answer_of s.old (take_back source) }
 {
@@ -114,6 +120,7 @@ pub fn take_back_on(s: &mut Session, source: usize) -> Result<(), Refusal>
 }
 
 // Keeps only the last direction; an empty list stays as it is.
+#[tactic(auto, using(crate::proofs::Refusals::shared_source, crate::proofs::Refusals::shared_few))]
 pub fn settle_on(s: &mut Session, source: usize) -> Result<(), Refusal>
     // The last direction is copied to the first place as it is held. In a hand-made record it may hold a NaN: the promise says that a NaN stands there afterwards,
     // and the code copies its bits. Its sign and payload are not the program's choice, but the logic has one NaN and cannot say so.

@@ -1,12 +1,6 @@
 -- `session_calls::settle` meets its contract: a refused session is not given back, and an accepted one is what the call on the lent one left. Assumes nothing.
-use Rattle.std.proofs.lemmas.Result.{err_from_is_err_and}
-use Rattle.session_history.specs.Calls.{settle}
-use Rattle.session_calls.proofs.Refusals.{refused}
-use Rattle.session_calls.proofs.Answers.{refused_left}
+use Rattle.session_calls.proofs.Answers.{answered_refused}
 use Rattle.session_calls.proofs.settle.Goals as goal
 
 pub returns-in_err-settle_on : goal.returns-in_err-settle_on
-returns-in_err-settle_on c =
-    let a = c.args in
-    let p = err_from_is_err_and c.from_residual.result c.from_residual.ensures.1 in
-    rw (p.1, p.2) (refused_left a.s (settle a.source) (refused _) c.in_err-settle_on.ensures)
+returns-in_err-settle_on c = answered_refused _ _ _ _ _ c.from_residual.ensures.1 c.in_err-settle_on.ensures

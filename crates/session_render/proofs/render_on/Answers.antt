@@ -1,8 +1,7 @@
 -- `session_render::render_on` meets its contract: a refusal leaves session and buffer, and else the new start rows and the mix are the definition's. Assumes nothing.
 use mathlib.Core.Path.{refl, sym, ◌∙◌}
-use Rattle.std.proofs.lemmas.Result.{err_from_is_err_and}
 use Rattle.session_calls.proofs.Refusals.{formed, refused}
-use Rattle.session_calls.proofs.Answers.{refused_as}
+use Rattle.session_calls.proofs.Answers.{left_refused}
 use Rattle.session_render.proofs.Numbers.{Admitted, admitted, outputs_low}
 use Rattle.session_render.proofs.Mixing.{mix_same}
 use Rattle.session_render.proofs.Answers.{buffer_refused, render_done, buffer_done}
@@ -15,9 +14,7 @@ passed : (c : In_ok-refusal)
 passed c = admitted _ _ _ _ (sym c.in_ok-refusal.ensures)
 
 pub returns-in_err-refusal-clause-value : goal.returns-in_err-refusal-clause-value
-returns-in_err-refusal-clause-value c =
-    let p = err_from_is_err_and c.from_residual.result c.from_residual.ensures.1 in
-    rw (p.1, p.2) (refused_as _ _ c.in_err-refusal.ensures (refused _))
+returns-in_err-refusal-clause-value c = left_refused _ _ _ _ c.from_residual.ensures.1 c.in_err-refusal.ensures
 
 pub returns-in_err-refusal-clause-outputs_after : goal.returns-in_err-refusal-clause-outputs_after
 returns-in_err-refusal-clause-outputs_after c =
