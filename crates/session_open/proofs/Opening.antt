@@ -4,7 +4,7 @@ use mathlib.Core.Path.{◌≡◌, refl, sym, ap, ◌∙◌}
 use mathlib.Core.Bool.{Bool, true, false, ◌&&◌, ◌||◌, not, cond, false≢true, true≢false}
 use mathlib.Core.List.{List}
 use native.Mathlib.Omega.{arith}
-use borrow.Author.Tests.{ltb-false, eqb-true, eq-eqb, ne_eqb}
+use borrow.Author.Tests.{ltb-false, le-ltb, eqb-true, eq-eqb, ne_eqb}
 use lib.Dec.{eqb, ltb}
 use lib.Ieee.{Float}
 use lib.ListN.{length}
@@ -116,43 +116,43 @@ module _ (positions : List Float) (lfe : List ℕ) where
 
 -- ---- the answer, by what the layout answers
 
-number_same : (r : Result NewPanner Refusal) → number_in r ≡ (new_answer r).number
-number_same (Ok made) = refl
-number_same (Err why) = refl
-
-not_true : (b : Bool) → not b ≡ true → b ≡ false
-not_true false e = refl
-not_true true e = absurd (false≢true e)
-
 abbrev pub uncounted : ℕ → Bool
 uncounted n = ltb n 1 || ltb most_sources n
 
-module _ (positions : List Float) (lfe : List ℕ) (sources : ℕ) (r : Result NewPanner Refusal) (is : new_answer r ≡ new_of positions lfe) {first : Bool} (f : first ≡ early (number_in r)) where
-  early_is : first ≡ early (new_answer r).number
-  early_is = f ∙ ap early (number_same r)
+-- by whether the count is 1 to 8, which a range tells
+pub counted_is : (n : ℕ) → 1 ≤ n → n ≤ most_sources → uncounted n ≡ false
+counted_is n a b = rw (le-ltb n 1 a, le-ltb most_sources n b)
 
-  pub opened_uncounted : not first && uncounted sources ≡ true → refused_by 3 ≡ open_of positions lfe sources
-  opened_uncounted e =
-      let p = both (not first) (uncounted sources) e in
-      open_sources positions lfe sources is (sym early_is ∙ not_true first p.0) p.1
+pub uncounted_is : (n : ℕ) → (1 ≤ n → n ≤ most_sources → ⊥) → uncounted n ≡ true
+uncounted_is n h = by (uncounted n) refl
+  where
+    by : (b : Bool) → uncounted n ≡ b → b ≡ true
+    by true e = refl
+    by false e = absurd (h (few_sources n e).0 (few_sources n e).1)
 
-  pub opened_refused : {why : Refusal} → r ≡ Err why → not first && uncounted sources ≡ false → refused_by (refusal_number why) ≡ open_of positions lfe sources
-  opened_refused {why} w e = ap (λ (x : Result NewPanner Refusal). refused_by (new_answer x).number) (sym w) ∙ by first refl
-    where
-      some : (new_answer r).number ≡ 0 → ⊥
-      some z = refused why (sym (ap (λ (x : Result NewPanner Refusal). (new_answer x).number) w) ∙ z)
+pub not_both : {why : Refusal} {made : NewPanner} → ◌≡◌ {A = Result NewPanner Refusal} (Err why) (Ok made) → ⊥
+not_both e = false≢true (ap opened e)
+  where
+    opened : Result NewPanner Refusal → Bool
+    opened (Ok made) = true
+    opened (Err why) = false
 
-      by : (b : Bool) → first ≡ b → refused_by (new_answer r).number ≡ open_of positions lfe sources
-      by true t = open_early positions lfe sources is (sym early_is ∙ t)
-      by false t =
-          let d : uncounted sources ≡ false = ap (λ (b : Bool). not b && uncounted sources) (sym t) ∙ e in
-          open_late positions lfe sources is (sym early_is ∙ t) d some
+module _ (positions : List Float) (lfe : List ℕ) (sources : ℕ) (r : Result NewPanner Refusal) (is : new_answer r ≡ new_of positions lfe) where
+  pub opened_first : {why : Refusal} → r ≡ Err why → early (refusal_number why) ≡ true → refused_by (refusal_number why) ≡ open_of positions lfe sources
+  opened_first w e =
+      let n = ap new_answer w in
+      open_early positions lfe sources (sym n ∙ is) e
 
-  pub opened_done : {made : NewPanner} → r ≡ Ok made → not first && uncounted sources ≡ false
+  pub opened_uncounted : early (new_answer r).number ≡ false → uncounted sources ≡ true → refused_by 3 ≡ open_of positions lfe sources
+  opened_uncounted e d = open_sources positions lfe sources is e d
+
+  pub opened_refused : {why : Refusal} → r ≡ Err why → early (new_answer r).number ≡ false → uncounted sources ≡ false → refused_by (refusal_number why) ≡ open_of positions lfe sources
+  opened_refused {why} w e d =
+      let n = ap new_answer w in
+      open_late positions lfe sources (sym n ∙ is) (sym (ap (λ (x : NewAnswer). early x.number) n) ∙ e) d (refused why)
+
+  pub opened_done : {made : NewPanner} → r ≡ Ok made → uncounted sources ≡ false
       → ◌≡◌ {A = OpenAnswer} (record { number = 0; imaginary = made.imaginary; session = fresh made.panner sources }) (open_of positions lfe sources)
-  opened_done {made} w e =
-      let n : new_answer r ≡ new_answer (Ok made) = ap new_answer w in
-      let t : early (new_answer r).number ≡ false = ap (λ (x : NewAnswer). early x.number) n in
-      let d : uncounted sources ≡ false = ap (λ (b : Bool). not b && uncounted sources) (sym (early_is ∙ t)) ∙ e in
-      ap (λ (x : NewAnswer). record { number = 0; imaginary = x.imaginary; session = fresh x.panner sources }) (sym n)
-      ∙ open_done positions lfe sources is t d (ap (λ (x : NewAnswer). x.number) n)
+  opened_done w d =
+      let n = ap new_answer w in
+      open_done positions lfe sources (sym n ∙ is) refl d refl

@@ -2,10 +2,9 @@
 #![tactic(auto)]
 
 ghost use Rattle.std.specs.Prelude.{◌≡◌};
-ghost use Rattle.refusals.specs.Refusals.{number_in};
+ghost use Rattle.refusals.specs.Refusals.{number_of};
 ghost use Rattle.session_open.specs.Open.{fresh, early, open_answer, open_of};
 
-use layout_new::NewPanner;
 use layout_record::VbapPanner;
 use mix_block::{GAINS, SOURCES};
 use refusals::Refusal;
@@ -20,6 +19,7 @@ pub struct Opened {
 }
 
 // A fresh session: empty lists, start rows of +0.
+#[tactic(auto, unfolding(crate::specs::Open::fresh))]
 fn fresh(panner: VbapPanner, sources: u8) -> Session
     ensures { result ≡ fresh panner sources }
 {
@@ -33,13 +33,10 @@ fn fresh(panner: VbapPanner, sources: u8) -> Session
 }
 
 // Whether the layout is refused with a number below that of the sources.
-fn refused_first(made: &Result<NewPanner, Refusal>) -> bool
-    ensures { result ≡ early (number_in made.now) }
+fn refused_first(why: Refusal) -> bool
+    ensures { result ≡ early (number_of why) }
 {
-    matches!(
-        made,
-        Err(Refusal::NotTriples) | Err(Refusal::TooManyPositions)
-    )
+    matches!(why, Refusal::NotTriples | Refusal::TooManyPositions)
 }
 
 // A fresh session over the layout of the positions. Origin of at least 1 source: document 01, refusal 3; 1, 2 and 4 are the layout's.
@@ -47,14 +44,13 @@ pub fn open(positions: &[f32], lfe: &[usize], sources: usize) -> Result<Opened, 
     ensures { open_answer result ≡ open_of positions.now lfe.now sources }
 {
     let made = layout_new::new(positions, lfe);
-    let first = refused_first(&made);
-    let uncounted = (sources < 1) | (SOURCES < sources);
-    if !first & uncounted {
-        return Err(Refusal::NoSuchCount);
+    match made {
+        Err(why) if refused_first(why) => Err(why),
+        _ if !(1..=SOURCES).contains(&sources) => Err(Refusal::NoSuchCount),
+        Err(why) => Err(why),
+        Ok(made) => Ok(Opened {
+            imaginary: made.imaginary,
+            session: fresh(made.panner, sources as u8),
+        }),
     }
-    let made = made?;
-    Ok(Opened {
-        imaginary: made.imaginary,
-        session: fresh(made.panner, sources as u8),
-    })
 }
