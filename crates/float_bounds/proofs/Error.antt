@@ -13,7 +13,7 @@ use lib.Ieee.Nearest.{closest}
 use lib.Ieee.Order.{drop}
 use lib.Ieee.Scale.{grid}
 use Rattle.float_order.proofs.Laws.{double}
-use Rattle.float_widths.proofs.Grid.{le_or_lt, cmp, picks}
+use Rattle.float_widths.proofs.Grid.{le_or_lt, cmp, picks, inside}
 
 -- 2 ^ prec - 1
 abbrev pub steps : Format → ℕ
@@ -46,9 +46,6 @@ full p n den P D K =
     let a : 2 ^ (p - 1 + k) ≤ n / den = size_reaches (n / den) (p - 1 + k) (inside (size (n / den)) p P K) in
     let b : 2 ^ (p - 1 + k) * den ≤ n = (le-div_iff_mul-le D).0 a in
     le_trans (le_of_eq (simp (mul_assoc, mul_comm, mul_left_comm, pow-add))) b
-  where
-    inside : (z p : ℕ) → 2 ≤ p → 0 < z - p → p - 1 + (z - p) < z
-    inside z p a b = omega arith
 
 -- ---- with x the result and n the fraction, both times den; u the unit, h = 2 ^ (prec - 1)
 above_by : (x n u h D : ℕ) → 2 * x ≤ 2 * n + u → h * u ≤ n → suc D ≡ 2 * h → x * D ≤ n * suc D

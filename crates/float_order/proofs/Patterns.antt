@@ -60,7 +60,7 @@ rem_units f (fin u m e) (fin r n d) s t A B p v w =
 digits : (f : Format) (n : ℕ) → n % top f % hid f ≡ n % hid f
 digits f n = mod-mod_of_dvd (hid f) n (dvd-mul_right (hid f) (suc (ones f)))
 
-hid_pos : (f : Format) → 0 < hid f
+pub hid_pos : (f : Format) → 0 < hid f
 hid_pos f = pow_pos (prec f - 1)
 
 none_above : (a w : ℕ) → 0 < w → w ≤ a → a / w ≡ 0 → ⊥

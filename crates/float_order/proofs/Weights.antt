@@ -10,14 +10,10 @@ use Rattle.float_remainder.proofs.Laws.{units_below}
 use Rattle.float_order.specs.Values.{sign_bit}
 use Rattle.float_order.specs.Width.{Weights, Patterned}
 use Rattle.float_order.proofs.Read.{value_top}
-use Rattle.float_order.proofs.Patterns.{value_units, rem_patterned, rem_not_nan, sign_part}
+use Rattle.float_order.proofs.Patterns.{value_units, rem_patterned, rem_not_nan, sign_part, hid_pos}
 use Rattle.float_order.proofs.Values.{sign_of_pattern}
 
 -- ---- bounds of the weights
-pub field_least : (f : Format) → 0 < hid f
-field_least binary32 = lit< tt
-field_least binary64 = lit< tt
-
 field_most : (f : Format) → hid f ≤ 2 ^ 52
 field_most binary32 = lit≤ tt
 field_most binary64 = lit≤ tt
@@ -65,7 +61,7 @@ module _ {f : Format} {S H O : ℕ} (w : Weights f S H O) where
   pub bounds : Bounds S H O
   bounds =
       at_weights (λ (s h o : ℕ). Bounds s h o)
-      (record { sign_some = sign_least f; sign_few = sign_most f; field_some = field_least f; field_few = field_most f; fields = fields_are f; fields_few = fields_most f })
+      (record { sign_some = sign_least f; sign_few = sign_most f; field_some = hid_pos f; field_few = field_most f; fields = fields_are f; fields_few = fields_most f })
 
   -- the exponent's field is no higher than the highest
   pub field_in : (n : ℕ) → n % S / H < O + 1
@@ -77,9 +73,6 @@ module _ {f : Format} {S H O : ℕ} (w : Weights f S H O) where
   module _ {x : Float} {p : ℕ} (v : Patterned f x p) where
     at_pattern : (P : ℕ → ℕ → ℕ → ℕ → Type 0) → P (top f) (hid f) (ones f) (to_bits f x) → P S H O p
     at_pattern P t = at_weights (λ (s h o : ℕ). P s h o p) (subst (λ (n : ℕ). P (top f) (hid f) (ones f) n) (sym v.pattern) t)
-
-    pub pattern_below : p < 2 * S
-    pattern_below = at_pattern (λ (s h o n : ℕ). n < 2 * s) (to_bits-lt f x v.held)
 
     -- the sign's part with a finite value's pattern
     pub pattern_room : (r : ℕ) → r < O * H → p - p % S + r < 2 * S

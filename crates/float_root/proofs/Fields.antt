@@ -26,9 +26,6 @@ module _ {f : Format} {S H O : ℕ} (w : Weights f S H O) {x : Float} {p : ℕ} 
       at_pattern (λ (s h o n : ℕ). n < s → n % s / h ≡ o → x ≡ sqrt_of f x)
       (λ l e. sqrt_inf f x v.held e v.number (lt-leb _ _ l))
 
-  pub low_digits : (p % S ≡ 0 → ⊥) → p % S / H ≡ 0 → 0 < p % H
-  low_digits = at_pattern (λ (s h o n : ℕ). (n % s ≡ 0 → ⊥) → n % s / h ≡ 0 → 0 < n % h) (some_digits f (to_bits f x))
-
   pub low_root : p < S → (p % S ≡ 0 → ⊥) → p % S / H ≡ 0 → round_root f (p % H * 2 ^ 0 * 2 ^ low f) ≡ sqrt_of f x
   low_root =
       at_pattern (λ (s h o n : ℕ). n < s → (n % s ≡ 0 → ⊥) → n % s / h ≡ 0 → round_root f (n % h * 2 ^ 0 * 2 ^ low f) ≡ sqrt_of f x)

@@ -180,13 +180,14 @@ units_size f s t q k r = go (ltb (q * 2 ^ k) (2 ^ (low f + suc (emax f))))
     go true v = same_value (odd (suc (prec f)) s q k (low f)) t s r (q * 2 ^ k) (2 ^ low f) (pow_pos (low f)) v (odd_sign (suc (prec f)) s q k (low f))
     go false v = absurd v
 
+-- the first kept digit is one of the number's
+pub inside : (z p : ℕ) → 2 ≤ p → 0 < z - p → p - 1 + (z - p) < z
+inside z p a b = omega arith
+
 -- the kept digits: all prec of them where any is dropped
 pub leading : (p w : ℕ) → 2 ≤ p → 0 < size w - p → 2 ^ (p - 1) ≤ w / 2 ^ (size w - p)
 leading p w h k =
     (le-div_iff_mul-le (pow_pos (size w - p))).1 (le_trans (le_of_eq (sym (pow-add 2 (p - 1) (size w - p)))) (size_reaches w (p - 1 + (size w - p)) (inside (size w) p h k)))
-  where
-    inside : (z p : ℕ) → 2 ≤ p → 0 < z - p → p - 1 + (z - p) < z
-    inside z p a b = omega arith
 
 -- ---- a finite result's sign, and its last digit
 pub units_signed : (f : Format) (s : Bool) (q k : ℕ) → sign_bit (units f s q k) ≡ s
