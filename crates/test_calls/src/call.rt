@@ -1,7 +1,7 @@
 // The calls of lists: the words of each, the call itself, and what it answered.
 use crate::ending::check_end;
 use crate::given;
-use crate::report::{COUNT, Got, NUMBERS};
+use crate::report::{COUNT, Got, NUMBERS, Name, tallies};
 use layout_record::no_panner;
 use mix_block::{GAINS, SOURCES};
 use refusals::{Refusal, number_in};
@@ -10,7 +10,7 @@ use session_open::Opened;
 use session_standing::PLACES;
 use test_call_words::draws::Draws;
 use test_call_words::sums::Sum;
-use test_lines::report::Difference;
+use test_lines::report::{Difference, Tally};
 use test_lines::{Malformed, Words};
 
 // The list at hand, and what all lists come to.
@@ -21,7 +21,7 @@ pub struct Calls {
     // of what the calls of the list answered, where a list has begun
     sum: Option<Sum>,
     // how many lines there were of each name
-    pub counts: [u64; COUNT],
+    pub tallies: [Tally<Name>; COUNT],
     // how often each number was answered, in all lists
     pub numbers: [u64; NUMBERS],
 }
@@ -34,10 +34,7 @@ fn told(words: &mut Words<'_>) -> Result<u64, Malformed> {
 }
 
 fn check_number(got: u32, told: u64) -> Result<(), Difference<Got>> {
-    if u64::from(got) == told {
-        return Ok(());
-    }
-    Err(Difference::At(Got::Number(got)))
+    Difference::unless(u64::from(got) == told, Got::Number(got))
 }
 
 // The session after a refused open, which gives none: every call on it is refused.
@@ -57,7 +54,7 @@ impl Calls {
         Calls {
             session: no_session(),
             sum: None,
-            counts: [0; COUNT],
+            tallies: tallies(),
             numbers: [0; NUMBERS],
         }
     }

@@ -5,18 +5,13 @@ use session_calls::Session;
 use session_standing::PLACES;
 use test_call_words::sums::{Sum, record_sum, word_of};
 use test_lines::Words;
-use test_lines::report::Difference;
+use test_lines::report::{Difference, each_same};
 use test_lines::values::{Pattern, Role, Shown, Value};
 use test_record_words::places::places;
 
-// The first place whose float is another, as words of a sum, and what it holds: `position` gives the place alone.
-fn first_other(got: &[f32], told: &[Value]) -> Option<(usize, Shown)> {
-    for (i, (x, value)) in got.iter().zip(told).enumerate() {
-        if word_of(x.pattern()) != word_of(*value) {
-            return Some((i, Shown::of(*x)));
-        }
-    }
-    None
+// Whether a float is what the line says, as words of a sum.
+fn is_same(x: f32, value: Value) -> bool {
+    word_of(x.pattern()) == word_of(value)
 }
 
 // A session against the words of a line, from the sum of the answers on.
@@ -31,27 +26,26 @@ pub fn check_end(words: &mut Words<'_>, s: &Session, sum: Sum) -> Result<(), Dif
     places(words, &mut standing, Role::Expected)?;
     places(words, &mut starts, Role::Expected)?;
     words.end()?;
-    if sum.value != told {
-        return Err(Difference::At(Got::Answers(sum)));
-    }
+    Difference::unless(sum.value == told, Got::Answers(sum))?;
     let got_record = record_sum(&s.panner);
-    if got_record.value != record {
-        return Err(Difference::At(Got::Record(got_record)));
-    }
-    if s.sources != sources {
-        return Err(Difference::At(Got::Sources(s.sources)));
-    }
-    // a `for`, as in `first_other`
-    for (i, (got, told)) in s.counts.iter().zip(counts).enumerate() {
-        if *got != told {
-            return Err(Difference::At(Got::Count(i, *got)));
-        }
-    }
-    if let Some((place, got)) = first_other(&s.standing, &standing) {
-        return Err(Difference::At(Got::Standing(place, got)));
-    }
-    if let Some((place, got)) = first_other(&s.starts, &starts) {
-        return Err(Difference::At(Got::Start(place, got)));
-    }
-    Ok(())
+    Difference::unless(got_record.value == record, Got::Record(got_record))?;
+    Difference::unless(s.sources == sources, Got::Sources(s.sources))?;
+    each_same(
+        &s.counts,
+        &counts,
+        |got: u8, told: u8| got == told,
+        |place: usize, got: u8| Got::Count(place, got),
+    )?;
+    each_same(
+        &s.standing,
+        &standing,
+        |x: f32, value: Value| is_same(x, value),
+        |place: usize, x: f32| Got::Standing(place, Shown::of(x)),
+    )?;
+    each_same(
+        &s.starts,
+        &starts,
+        |x: f32, value: Value| is_same(x, value),
+        |place: usize, x: f32| Got::Start(place, Shown::of(x)),
+    )
 }

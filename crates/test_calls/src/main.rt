@@ -8,12 +8,12 @@ mod given;
 mod report;
 
 use call::Calls;
-use report::{Got, NAMES, Name, totals};
+use report::{Got, Name, totals};
 use session_calls::Session;
 use std::io::Read;
 use std::{fs, io};
-use test_lines::lines::{Case, Lines};
-use test_lines::report::{Difference, Differences};
+use test_lines::lines::{Case, Lines, Told};
+use test_lines::report::Difference;
 
 // The samples of eight sources, and those of forty outputs. Origin: document 01, refusals 3, 2 and 8; one more than a block may have.
 const SAMPLES: usize = 8200;
@@ -28,7 +28,7 @@ fn replayed(
     outputs: &mut [f32; OUTPUTS],
 ) -> Result<(), Difference<Got>> {
     let mut words = case.words()?;
-    match words.counted(&NAMES, &mut calls.counts)? {
+    match words.counted(&mut calls.tallies)? {
         Name::Open => calls.open(&mut words),
         Name::Session => calls.give(&mut words),
         Name::Place => calls.place(&mut words),
@@ -45,20 +45,18 @@ fn replayed(
 
 // The lists of a reader, and what they come to. A list that has no end counts as one that differs.
 fn replay(rt: &(impl AllocGlobal + Print), input: &mut impl Read) -> io::Result<()> {
-    let mut differences = Differences::none();
     let mut calls = Calls::none();
     let mut samples = [0.0f32; SAMPLES];
     let mut outputs = [0.0f32; OUTPUTS];
     let mut lines = Lines::of(rt.alloc(), input)?;
-    lines.each(|case| {
-        let outcome = replayed(case, &mut calls, &mut samples, &mut outputs);
-        differences.tell(rt, case.number, Some(case.whole()), outcome)
+    let mut differences = lines.replay(rt, Told::Line, |case| {
+        replayed(case, &mut calls, &mut samples, &mut outputs)
     })?;
     if calls.is_begun() {
         let outcome: Result<(), Difference<Got>> = Err(Difference::Malformed);
         differences.tell(rt, lines.number, Some(b""), outcome)?;
     }
-    totals(rt, &calls.counts, &calls.numbers, differences)
+    totals(rt, &calls.tallies, &calls.numbers, differences)
 }
 
 // The lists of standard input, none of which may differ; then those of the file `faults`, wrong expectations and malformed lines, which all have to be found.

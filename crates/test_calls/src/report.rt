@@ -2,7 +2,7 @@
 use refusals::Refusal;
 use std::{fmt, io};
 use test_call_words::sums::Sum;
-use test_lines::report::{Differences, count_row};
+use test_lines::report::{Differences, Tally};
 use test_lines::values::Shown;
 
 #[derive(Clone, Copy)]
@@ -22,15 +22,17 @@ pub const COUNT: usize = 7;
 // How many numbers a call may answer: 0, and those of the refusals, of which Malformed is the last.
 pub const NUMBERS: usize = Refusal::Malformed as usize + 1;
 
-pub const NAMES: [(&str, Name); COUNT] = [
-    ("open", Name::Open),
-    ("session", Name::Session),
-    ("place", Name::Place),
-    ("take_back", Name::TakeBack),
-    ("settle", Name::Settle),
-    ("render", Name::Render),
-    ("end", Name::End),
-];
+pub fn tallies() -> [Tally<Name>; COUNT] {
+    [
+        Tally::of("open", Name::Open),
+        Tally::of("session", Name::Session),
+        Tally::of("place", Name::Place),
+        Tally::of("take_back", Name::TakeBack),
+        Tally::of("settle", Name::Settle),
+        Tally::of("render", Name::Render),
+        Tally::of("end", Name::End),
+    ]
+}
 
 // What was answered where a line says otherwise, and at which place.
 #[derive(Clone, Copy)]
@@ -63,26 +65,24 @@ impl fmt::Display for Got {
 // How many lines there were of each name, how often each number was answered, and how many calls, lists and lines that differ there were.
 pub fn totals(
     out: &impl Print,
-    counts: &[u64; COUNT],
+    tallies: &[Tally<Name>; COUNT],
     numbers: &[u64; NUMBERS],
     differences: Differences,
 ) -> io::Result<()> {
     let mut calls: u64 = 0;
     let mut lists: u64 = 0;
-    for ((text, name), count) in NAMES.iter().zip(counts) {
-        match name {
-            Name::End => lists = *count,
-            Name::Session => count_row(out, text, *count)?,
+    for tally in tallies {
+        match tally.of {
+            Name::End => lists = tally.count,
+            Name::Session => println!(out; "{tally}")?,
             _ => {
-                count_row(out, text, *count)?;
-                calls = calls.wrapping_add(*count);
+                println!(out; "{tally}")?;
+                calls = calls.wrapping_add(tally.count);
             }
         }
     }
     for (number, count) in numbers.iter().enumerate() {
         println!(out; "number {number}: {count}")?;
     }
-    count_row(out, "calls", calls)?;
-    count_row(out, "lists", lists)?;
-    count_row(out, "differences", differences.count)
+    println!(out; "calls {calls}\nlists {lists}\n{differences}")
 }

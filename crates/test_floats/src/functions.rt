@@ -1,7 +1,7 @@
 // The functions that a case may name, and what each takes and answers.
 use crate::Answered;
 use test_lines::Words;
-use test_lines::report::Difference;
+use test_lines::report::{Difference, Tally};
 use test_lines::values::{Answer, Given, Shown};
 
 #[derive(Clone, Copy)]
@@ -39,44 +39,43 @@ pub enum Function {
 pub const COUNT: usize = 27;
 
 // Each function beside its name, in the order of the counts that are written.
-pub const NAMES: [(&str, Function); COUNT] = [
-    ("sqrt32", Function::Sqrt32),
-    ("clamp", Function::Clamp),
-    ("abs32", Function::Abs32),
-    ("powi4", Function::Powi4),
-    ("sin32", Function::Sin32),
-    ("cos32", Function::Cos32),
-    ("is_finite32", Function::IsFinite32),
-    ("sign_bit32", Function::SignBit32),
-    ("widen", Function::Widen),
-    ("sin_cos32", Function::SinCos32),
-    ("max32", Function::Max32),
-    ("min32", Function::Min32),
-    ("rem_euclid32", Function::RemEuclid32),
-    ("sqrt64", Function::Sqrt64),
-    ("abs64", Function::Abs64),
-    ("sin64", Function::Sin64),
-    ("cos64", Function::Cos64),
-    ("atan64", Function::Atan64),
-    ("is_finite64", Function::IsFinite64),
-    ("sign_bit64", Function::SignBit64),
-    ("narrow", Function::Narrow),
-    ("sin_cos64", Function::SinCos64),
-    ("max64", Function::Max64),
-    ("rem_euclid64", Function::RemEuclid64),
-    ("atan2", Function::Atan2),
-    ("f32_from_u64", Function::F32FromU64),
-    ("f64_from_u64", Function::F64FromU64),
-];
+pub fn tallies() -> [Tally<Function>; COUNT] {
+    [
+        Tally::of("sqrt32", Function::Sqrt32),
+        Tally::of("clamp", Function::Clamp),
+        Tally::of("abs32", Function::Abs32),
+        Tally::of("powi4", Function::Powi4),
+        Tally::of("sin32", Function::Sin32),
+        Tally::of("cos32", Function::Cos32),
+        Tally::of("is_finite32", Function::IsFinite32),
+        Tally::of("sign_bit32", Function::SignBit32),
+        Tally::of("widen", Function::Widen),
+        Tally::of("sin_cos32", Function::SinCos32),
+        Tally::of("max32", Function::Max32),
+        Tally::of("min32", Function::Min32),
+        Tally::of("rem_euclid32", Function::RemEuclid32),
+        Tally::of("sqrt64", Function::Sqrt64),
+        Tally::of("abs64", Function::Abs64),
+        Tally::of("sin64", Function::Sin64),
+        Tally::of("cos64", Function::Cos64),
+        Tally::of("atan64", Function::Atan64),
+        Tally::of("is_finite64", Function::IsFinite64),
+        Tally::of("sign_bit64", Function::SignBit64),
+        Tally::of("narrow", Function::Narrow),
+        Tally::of("sin_cos64", Function::SinCos64),
+        Tally::of("max64", Function::Max64),
+        Tally::of("rem_euclid64", Function::RemEuclid64),
+        Tally::of("atan2", Function::Atan2),
+        Tally::of("f32_from_u64", Function::F32FromU64),
+        Tally::of("f64_from_u64", Function::F64FromU64),
+    ]
+}
 
 // An answer against the last word of a line.
 fn compare<R: Answer>(words: &mut Words<'_>, got: R) -> Result<(), Difference<Answered>> {
     let is_same = words.says(got)?;
     words.end()?;
-    if is_same {
-        return Ok(());
-    }
-    Err(Difference::At(Answered::One(Shown::of(got))))
+    Difference::unless(is_same, Answered::One(Shown::of(got)))
 }
 
 // Both functions below call a closure that they are given, and owe for it the clause that it may be called.
@@ -104,10 +103,10 @@ fn both<A: Given + Answer, F: Fn(A) -> (A, A)>(
     let is_first = words.says(first)?;
     let is_second = words.says(second)?;
     words.end()?;
-    if is_first && is_second {
-        return Ok(());
-    }
-    Err(Difference::At(Answered::Two(Shown::of(first), Shown::of(second))))
+    Difference::unless(
+        is_first && is_second,
+        Answered::Two(Shown::of(first), Shown::of(second)),
+    )
 }
 
 // A function on the arguments of a line, against the answers that it says.

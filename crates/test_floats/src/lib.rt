@@ -4,10 +4,10 @@
 
 mod functions;
 
-use functions::{COUNT, NAMES, check};
+use functions::{Function, check, tallies};
 use std::{fmt, io};
-use test_lines::lines::{Case, Lines};
-use test_lines::report::{Difference, Differences, totals};
+use test_lines::lines::{Case, Lines, Told};
+use test_lines::report::{Difference, Tally, write_tallies};
 use test_lines::values::Shown;
 
 // What the function answered, where the line says otherwise.
@@ -27,25 +27,21 @@ impl fmt::Display for Answered {
 }
 
 // Checks a case, which counts for its function where it is not malformed, so only after its check.
-fn replayed(case: Case<'_>, counts: &mut [u64; COUNT]) -> Result<(), Difference<Answered>> {
+fn replayed(case: Case<'_>, tallies: &mut [Tally<Function>]) -> Result<(), Difference<Answered>> {
     let mut words = case.words()?;
-    let function = words.named(&NAMES)?;
-    let outcome = check(function, &mut words);
+    let tally = words.tally_of(tallies)?;
+    let outcome = check(tally.of, &mut words);
     if let Err(Difference::Malformed) = outcome {
         return outcome;
     }
-    let count = &mut counts[function as usize];
-    *count = count.wrapping_add(1);
+    tally.add();
     outcome
 }
 
-pub fn run(rt: &(impl AllocGlobal + Input + Print)) -> io::Result<()> {
-    let mut counts = [0u64; COUNT];
-    let mut differences = Differences::none();
+// Replays the list of standard input.
+pub fn replay(rt: &(impl AllocGlobal + Input + Print)) -> io::Result<()> {
+    let tallies = &mut tallies()[..];
     let mut lines = Lines::of(rt.alloc(), rt.reader())?;
-    lines.each(|case| {
-        let outcome = replayed(case, &mut counts);
-        differences.tell(rt, case.number, Some(case.bytes()), outcome)
-    })?;
-    totals(rt, &NAMES, &counts, differences)
+    let differences = lines.replay(rt, Told::Part, |case| replayed(case, tallies))?;
+    write_tallies(rt, tallies, differences)
 }

@@ -6,17 +6,15 @@ mod fields;
 
 use fields::check_made;
 use std::io;
-use test_lines::lines::{Case, Lines};
-use test_lines::report::{Difference, Differences, ended};
-
-// The function that a line names.
-#[derive(Clone, Copy)]
-struct New;
+use test_lines::lines::{Case, Lines, Told};
+use test_lines::report::{Difference, write_cases};
 
 // How a line differs: the name of the first field that does.
 fn replayed(case: Case<'_>) -> Result<(), Difference<&'static str>> {
     let mut words = case.words()?;
-    let New = words.named(&[("new", New)])?;
+    if words.name()? != b"new".as_slice() {
+        return Err(Difference::Malformed);
+    }
     let mut positions = [0.0f32; 256];
     let mut lfe = [0usize; 64];
     let positions = words.list(&mut positions)?;
@@ -29,11 +27,10 @@ fn replayed(case: Case<'_>) -> Result<(), Difference<&'static str>> {
 
 fn main(rt: HostRuntime) -> io::Result<()> {
     let mut cases: u64 = 0;
-    let mut differences = Differences::none();
     let mut lines = Lines::of(rt.alloc(), rt.reader())?;
-    lines.each(|case| {
+    let differences = lines.replay(&rt, Told::Nothing, |case| {
         cases = cases.wrapping_add(1);
-        differences.tell(&rt, case.number, None, replayed(case))
+        replayed(case)
     })?;
-    ended(&rt, cases, differences)
+    write_cases(&rt, cases, differences)
 }

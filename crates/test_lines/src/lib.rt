@@ -8,6 +8,8 @@ pub mod values;
 ghost use Rattle.std.specs.Prelude.{◌≡◌, MatchOption, ◌<◌, ◌≤◌, length};
 ghost use Rattle.test_lines.specs.Words.{digit_of, number_of, span_to, is_name_byte, all_name, kind_of, word_at};
 
+use crate::report::Tally;
+
 // What a word is.
 #[derive(Clone, Copy)]
 pub enum Word {
@@ -130,31 +132,23 @@ impl<'a> Words<'a> {
         }
     }
 
-    // What stands in a list beside the name that is the next word.
-    pub fn named<T: Copy>(&mut self, names: &[(&str, T)]) -> Result<T, Malformed> {
+    // The tally of the name that is the next word.
+    pub fn tally_of<'t, T>(
+        &mut self,
+        tallies: &'t mut [Tally<T>],
+    ) -> Result<&'t mut Tally<T>, Malformed> {
         let name = self.name()?;
-        for (text, of) in names {
-            if text.as_bytes() == name {
-                return Ok(*of);
-            }
-        }
-        Err(Malformed)
+        tallies
+            .iter_mut()
+            .find(|tally| tally.name.as_bytes() == name)
+            .ok_or(Malformed)
     }
 
-    // The same, which counts in what stands at the name's place of a second list.
-    pub fn counted<T: Copy>(
-        &mut self,
-        names: &[(&str, T)],
-        counts: &mut [u64],
-    ) -> Result<T, Malformed> {
-        let name = self.name()?;
-        for ((text, of), count) in names.iter().zip(counts) {
-            if text.as_bytes() == name {
-                *count = count.wrapping_add(1);
-                return Ok(*of);
-            }
-        }
-        Err(Malformed)
+    // What the name that is the next word stands for; the line counts for it.
+    pub fn counted<T: Copy>(&mut self, tallies: &mut [Tally<T>]) -> Result<T, Malformed> {
+        let tally = self.tally_of(tallies)?;
+        tally.add();
+        Ok(tally.of)
     }
 
     // No word may be left.

@@ -1,6 +1,8 @@
 // The lines of a list, one after the other. docs/CASES.md, "Lines".
+use crate::report::{Difference, Differences};
 use crate::{Malformed, Words};
 use std::alloc::Global;
+use std::fmt;
 use std::io::{self, BufRead, BufReader, Read};
 
 // The bytes that a line may have, with its line feed. Origin: docs/CASES.md, "Lines".
@@ -25,15 +27,24 @@ pub struct Case<'a> {
     pub line: Result<&'a [u8], &'a [u8]>,
 }
 
-impl<'a> Case<'a> {
-    // Its bytes, of a line that is too long or has no line feed the first ones.
-    pub fn bytes(self) -> &'a [u8] {
-        self.line.unwrap_or_else(|part| part)
-    }
+// What is written of a line that differs, behind its number.
+#[derive(Clone, Copy)]
+pub enum Told {
+    Nothing,
+    // its bytes; of one that is too long or has no line feed none
+    Line,
+    // its bytes; of one that is too long or has no line feed the first ones
+    Part,
+}
 
-    // The bytes of a line as it has to be, or none.
-    pub fn whole(self) -> &'a [u8] {
-        self.line.unwrap_or(b"")
+impl<'a> Case<'a> {
+    // The bytes that are written, where any are.
+    fn told(self, what: Told) -> Option<&'a [u8]> {
+        match what {
+            Told::Nothing => None,
+            Told::Line => Some(self.line.unwrap_or(b"")),
+            Told::Part => Some(self.line.unwrap_or_else(|part| part)),
+        }
     }
 
     pub fn words(self) -> Result<Words<'a>, Malformed> {
@@ -108,16 +119,24 @@ impl<R: Read> Lines<R> {
         self.case()
     }
 
-    // Replays the cases that are left, one after the other, counted as in `next`.
-    pub fn each<F: FnMut(Case<'_>) -> io::Result<()>>(&mut self, mut replay: F) -> io::Result<()>
-        requires { F.IsAlwaysCallable replay }
+    // Checks each case that is left, counted as in `next`, writes the first that differ, and answers how many do.
+    pub fn replay<T: fmt::Display + Copy, F: FnMut(Case<'_>) -> Result<(), Difference<T>>>(
+        &mut self,
+        out: &impl Print,
+        what: Told,
+        mut check: F,
+    ) -> io::Result<Differences>
+        requires { F.IsAlwaysCallable check }
     {
+        let mut differences = Differences::none();
         for _ in 0..u64::MAX {
             match self.next() {
-                Some(case) => replay(case)?,
+                Some(case) => {
+                    differences.tell(out, case.number, case.told(what), check(case))?;
+                }
                 None => break,
             }
         }
-        Ok(())
+        Ok(differences)
     }
 }

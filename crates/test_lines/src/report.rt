@@ -12,6 +12,17 @@ pub enum Difference<T> {
     Malformed,
 }
 
+impl<T: Copy> Difference<T> {
+    // What was answered, unless it is what the line says.
+    pub fn unless(is_same: bool, got: T) -> Result<(), Difference<T>> {
+        if is_same {
+            Ok(())
+        } else {
+            Err(Difference::At(got))
+        }
+    }
+}
+
 impl<T> From<Malformed> for Difference<T> {
     fn from(_: Malformed) -> Difference<T> {
         Difference::Malformed
@@ -25,6 +36,24 @@ impl<T: fmt::Display> fmt::Display for Difference<T> {
             Difference::Malformed => f.write_str("malformed"),
         }
     }
+}
+
+// Each answer has to be what the line says at its place. `position` would give the first place that differs alone.
+pub fn each_same<T: Copy, U: Copy, D: Copy, F: Fn(T, U) -> bool, G: Fn(usize, T) -> D>(
+    got: &[T],
+    told: &[U],
+    is_same: F,
+    differs: G,
+) -> Result<(), Difference<D>>
+    requires is_same { F.IsAlwaysCallable is_same }
+    requires differs { G.IsAlwaysCallable differs }
+{
+    for (place, (got, told)) in got.iter().zip(told).enumerate() {
+        if !is_same(*got, *told) {
+            return Err(Difference::At(differs(place, *got)));
+        }
+    }
+    Ok(())
 }
 
 // How many lines differ so far.
@@ -61,30 +90,54 @@ impl Differences {
     }
 }
 
-// A name and a count.
-pub fn count_row(out: &impl Print, name: &str, count: u64) -> io::Result<()> {
-    println!(out; "{name} {count}")
+impl fmt::Display for Differences {
+    fn fmt<W: fmt::Write>(&self, f: &mut fmt::Formatter<W>) -> fmt::Result {
+        write!(f, "differences {}", self.count)
+    }
+}
+
+// A name, what it stands for, and how many lines had it.
+#[derive(Clone, Copy)]
+pub struct Tally<T> {
+    pub name: &'static str,
+    pub of: T,
+    pub count: u64,
+}
+
+impl<T> Tally<T> {
+    pub fn of(name: &'static str, of: T) -> Tally<T> {
+        Tally { name, of, count: 0 }
+    }
+
+    // One line more.
+    pub fn add(&mut self) {
+        self.count = self.count.wrapping_add(1);
+    }
+}
+
+impl<T> fmt::Display for Tally<T> {
+    fn fmt<W: fmt::Write>(&self, f: &mut fmt::Formatter<W>) -> fmt::Result {
+        write!(f, "{} {}", self.name, self.count)
+    }
 }
 
 // How many cases there were of each name that had any, how many in all, and how many lines differed.
-pub fn totals<T>(
+pub fn write_tallies<T>(
     out: &impl Print,
-    names: &[(&str, T)],
-    counts: &[u64],
+    tallies: &[Tally<T>],
     differences: Differences,
 ) -> io::Result<()> {
     let mut cases: u64 = 0;
-    for ((name, _), count) in names.iter().zip(counts) {
-        if *count > 0 {
-            count_row(out, name, *count)?;
+    for tally in tallies {
+        if tally.count > 0 {
+            println!(out; "{tally}")?;
         }
-        cases = cases.wrapping_add(*count);
+        cases = cases.wrapping_add(tally.count);
     }
-    ended(out, cases, differences)
+    write_cases(out, cases, differences)
 }
 
 // How many cases there were, and how many lines differed.
-pub fn ended(out: &impl Print, cases: u64, differences: Differences) -> io::Result<()> {
-    count_row(out, "cases", cases)?;
-    count_row(out, "differences", differences.count)
+pub fn write_cases(out: &impl Print, cases: u64, differences: Differences) -> io::Result<()> {
+    println!(out; "cases {cases}\n{differences}")
 }

@@ -103,6 +103,8 @@ pub trait Pattern: Copy {
 
     ghost value: { Self → Float };
 
+    const FORM: Form;
+
     // The float of a pattern; every NaN's pattern is the one NaN.
     fn of_bits(bits: u64) -> Self
         ensures { value result ≡ from_bits format (bits % 2 ^ width) };
@@ -118,16 +120,19 @@ impl Pattern for f32 {
 
     ghost value = { λ x. x };
 
+    const FORM: Form = Form::Single;
+
+    #[tactic(auto, using(crate::proofs::Patterns::nan_of, crate::proofs::Patterns::no_nan))]
     fn of_bits(bits: u64) -> f32 {
         let b = (bits % 0x1_0000_0000) as u32;
         if b % 0x8000_0000 > 0x7f80_0000 {
-            return 0.0 / 0.0;
+            return f32::NAN;
         }
         f32::from_bits(b)
     }
 
     fn pattern(self) -> Value {
-        if self != self {
+        if self.is_nan() {
             return Value::Nan;
         }
         Value::Bits(u64::from(self.to_bits()))
@@ -141,15 +146,18 @@ impl Pattern for f64 {
 
     ghost value = { λ x. x };
 
+    const FORM: Form = Form::Double;
+
+    #[tactic(auto, using(crate::proofs::Patterns::nan_of, crate::proofs::Patterns::no_nan))]
     fn of_bits(bits: u64) -> f64 {
         if bits % 0x8000_0000_0000_0000 > 0x7ff0_0000_0000_0000 {
-            return 0.0 / 0.0;
+            return f64::NAN;
         }
         f64::from_bits(bits)
     }
 
     fn pattern(self) -> Value {
-        if self != self {
+        if self.is_nan() {
             return Value::Nan;
         }
         Value::Bits(self.to_bits())
@@ -163,6 +171,7 @@ impl<'a> Words<'a> {
     pub fn take(&mut self, form: Form, role: Role) -> Result<Value, Malformed>
         ensures value { result ≡ taken_of form (may_be_nan role) (slice_index self.old.line.now self.old.at) (word_at self.old.line.now self.old.at).word }
         ensures rest { self.new.at ≡ (word_at self.old.line.now self.old.at).next }
+        ensures line { self.new.line ≡ self.old.line }
     {
         let first = self.line.get(self.at).copied().unwrap_or(0);
         match self.next() {
@@ -197,6 +206,12 @@ impl<'a> Words<'a> {
         if n <= most { Ok(n) } else { Err(Malformed) }
     }
 
+    // One of a list, by its number.
+    pub fn one_of<T: Copy>(&mut self, list: &[T]) -> Result<T, Malformed> {
+        let number: usize = self.read()?;
+        list.get(number).copied().ok_or(Malformed)
+    }
+
     // As many as a buffer has places.
     pub fn fill<T: Given>(&mut self, to: &mut [T]) -> Result<(), Malformed> {
         for x in to {
@@ -219,15 +234,9 @@ pub trait Given: Copy {
     fn read(words: &mut Words<'_>) -> Result<Self, Malformed>;
 }
 
-impl Given for f32 {
-    fn read(words: &mut Words<'_>) -> Result<f32, Malformed> {
-        Ok(f32::of_bits(words.bits(Form::Single)?))
-    }
-}
-
-impl Given for f64 {
-    fn read(words: &mut Words<'_>) -> Result<f64, Malformed> {
-        Ok(f64::of_bits(words.bits(Form::Double)?))
+impl<T: Pattern> Given for T {
+    fn read(words: &mut Words<'_>) -> Result<T, Malformed> {
+        Ok(T::of_bits(words.bits(T::FORM)?))
     }
 }
 
@@ -256,23 +265,15 @@ impl<A: Given> Given for (A, A) {
     }
 }
 
-// What may be answered, as a word of its form. An impl for each type: a general one for floats or whole numbers would overlap the others. No `From<R> for Value` beside the form: each function that takes an answer would have to name that bound too.
+// What may be answered, as a word of its form. An impl for each type that is no float: a general one for these would overlap that of floats. No `From<R> for Value` beside the form: each function that takes an answer would have to name that bound too.
 pub trait Answer: Copy {
     const FORM: Form;
 
     fn value(self) -> Value;
 }
 
-impl Answer for f32 {
-    const FORM: Form = Form::Single;
-
-    fn value(self) -> Value {
-        self.pattern()
-    }
-}
-
-impl Answer for f64 {
-    const FORM: Form = Form::Double;
+impl<T: Pattern> Answer for T {
+    const FORM: Form = T::FORM;
 
     fn value(self) -> Value {
         self.pattern()

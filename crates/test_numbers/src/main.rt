@@ -5,5 +5,5 @@
 use std::io;
 
 fn main(rt: HostRuntime) -> io::Result<()> {
-    test_floats::run(&rt)
+    test_floats::replay(&rt)
 }

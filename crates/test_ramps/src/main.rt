@@ -4,9 +4,9 @@
 
 use std::{fmt, io};
 use test_lines::Words;
-use test_lines::lines::{Case, Lines};
-use test_lines::report::{Difference, Differences, totals};
-use test_lines::values::Shown;
+use test_lines::lines::{Case, Lines, Told};
+use test_lines::report::{Difference, Tally, each_same, write_tallies};
+use test_lines::values::{Form, Pattern, Role, Shown, Value};
 
 // The most samples that a line may list. Origin: docs/CASES.md, "Rows and ramps".
 const SAMPLES: usize = 1024;
@@ -16,14 +16,6 @@ enum Function {
     RampAdd,
     NormalizedLerpGain,
 }
-
-// How many functions there are. Origin: Function.
-const COUNT: usize = 2;
-
-const NAMES: [(&str, Function); COUNT] = [
-    ("ramp_add", Function::RampAdd),
-    ("normalized_lerp_gain", Function::NormalizedLerpGain),
-];
 
 // The first place that differs, and what was answered there.
 #[derive(Clone, Copy)]
@@ -43,20 +35,20 @@ impl fmt::Display for Other {
 
 // Floats against the words that are left of a line.
 fn compare(words: &mut Words<'_>, got: &[f32]) -> Result<(), Difference<Other>> {
-    let mut first = None;
-    for (place, x) in got.iter().enumerate() {
-        if !words.says(*x)? && first.is_none() {
-            first = Some(Other {
-                place,
-                got: Shown::of(*x),
-            });
-        }
+    let mut told = [Value::Bits(0); SAMPLES];
+    for value in told.iter_mut().take(got.len()) {
+        *value = words.take(Form::Single, Role::Expected)?;
     }
     words.end()?;
-    match first {
-        Some(other) => Err(Difference::At(other)),
-        None => Ok(()),
-    }
+    each_same(
+        got,
+        &told,
+        |x: f32, value: Value| x.pattern().agrees(value),
+        |place: usize, x: f32| Other {
+            place,
+            got: Shown::of(x),
+        },
+    )
 }
 
 // A case of `ramp_add`, from its arguments on.
@@ -83,21 +75,20 @@ fn check_mix(words: &mut Words<'_>) -> Result<(), Difference<Other>> {
 // ---- all cases
 
 // Checks a case, which counts for its function where it names one.
-fn replayed(case: Case<'_>, counts: &mut [u64; COUNT]) -> Result<(), Difference<Other>> {
+fn replayed(case: Case<'_>, tallies: &mut [Tally<Function>]) -> Result<(), Difference<Other>> {
     let mut words = case.words()?;
-    match words.counted(&NAMES, counts)? {
+    match words.counted(tallies)? {
         Function::RampAdd => check_ramp(&mut words),
         Function::NormalizedLerpGain => check_mix(&mut words),
     }
 }
 
 fn main(rt: HostRuntime) -> io::Result<()> {
-    let mut counts = [0u64; COUNT];
-    let mut differences = Differences::none();
+    let tallies = &mut [
+        Tally::of("ramp_add", Function::RampAdd),
+        Tally::of("normalized_lerp_gain", Function::NormalizedLerpGain),
+    ][..];
     let mut lines = Lines::of(rt.alloc(), rt.reader())?;
-    lines.each(|case| {
-        let outcome = replayed(case, &mut counts);
-        differences.tell(&rt, case.number, Some(case.whole()), outcome)
-    })?;
-    totals(&rt, &NAMES, &counts, differences)
+    let differences = lines.replay(&rt, Told::Line, |case| replayed(case, tallies))?;
+    write_tallies(&rt, tallies, differences)
 }

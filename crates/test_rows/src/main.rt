@@ -7,8 +7,8 @@ mod set;
 
 use layout_record::VbapPanner;
 use std::{fmt, io};
-use test_lines::lines::{Case, Lines};
-use test_lines::report::{Difference, Differences, totals};
+use test_lines::lines::{Case, Lines, Told};
+use test_lines::report::{Difference, Differences, Tally, write_tallies};
 use test_lines::values::Shown;
 
 #[derive(Clone, Copy)]
@@ -21,13 +21,6 @@ enum Name {
 
 // How many names there are. Origin: Name.
 const COUNT: usize = 4;
-
-const NAMES: [(&str, Name); COUNT] = [
-    ("layout", Name::Layout),
-    ("record", Name::Record),
-    ("gains", Name::Gains),
-    ("num_outputs", Name::NumOutputs),
-];
 
 // What was answered where a line says otherwise: the number, the count, or what the first place that differs holds.
 #[derive(Clone, Copy)]
@@ -47,30 +40,45 @@ impl fmt::Display for Got {
     }
 }
 
+// The layout that stands, and how many lines there were of each name.
+#[derive(Clone, Copy)]
+struct Rows {
+    panner: VbapPanner,
+    tallies: [Tally<Name>; COUNT],
+}
+
 // A line, which counts for its name where it has one. A layout stands until a line sets another.
-fn replayed(
-    case: Case<'_>,
-    panner: &mut VbapPanner,
-    counts: &mut [u64; COUNT],
-) -> Result<(), Difference<Got>> {
+fn replayed(case: Case<'_>, rows: &mut Rows) -> Result<(), Difference<Got>> {
     let mut words = case.words()?;
-    match words.counted(&NAMES, counts)? {
-        Name::Layout => set::layout(&mut words, panner),
-        Name::Record => set::record(&mut words, panner),
-        Name::Gains => asked::check_gains(&mut words, panner),
-        Name::NumOutputs => asked::check_outputs(&mut words, panner),
+    match words.counted(&mut rows.tallies)? {
+        Name::Layout => set::layout(&mut words, &mut rows.panner),
+        Name::Record => set::record(&mut words, &mut rows.panner),
+        Name::Gains => asked::check_gains(&mut words, &rows.panner),
+        Name::NumOutputs => asked::check_outputs(&mut words, &rows.panner),
     }
 }
 
+// Takes the array, whose length a proof knows: of one that a closure has changed it does not.
+fn totals(
+    out: &impl Print,
+    tallies: &[Tally<Name>; COUNT],
+    differences: Differences,
+) -> io::Result<()> {
+    write_tallies(out, tallies, differences)
+}
+
 fn main(rt: HostRuntime) -> io::Result<()> {
-    // Before the first line the layout is the one that stands beside a refusal.
-    let mut panner = layout_record::no_panner();
-    let mut counts = [0u64; COUNT];
-    let mut differences = Differences::none();
+    let mut rows = Rows {
+        // Before the first line the layout is the one that stands beside a refusal.
+        panner: layout_record::no_panner(),
+        tallies: [
+            Tally::of("layout", Name::Layout),
+            Tally::of("record", Name::Record),
+            Tally::of("gains", Name::Gains),
+            Tally::of("num_outputs", Name::NumOutputs),
+        ],
+    };
     let mut lines = Lines::of(rt.alloc(), rt.reader())?;
-    lines.each(|case| {
-        let outcome = replayed(case, &mut panner, &mut counts);
-        differences.tell(&rt, case.number, Some(case.whole()), outcome)
-    })?;
-    totals(&rt, &NAMES, &counts, differences)
+    let differences = lines.replay(&rt, Told::Line, |case| replayed(case, &mut rows))?;
+    totals(&rt, &rows.tallies, differences)
 }
