@@ -7,18 +7,31 @@ use refusals::{Refusal, number_in};
 use test_lines::Words;
 use test_lines::report::Difference;
 use test_lines::values::{Answer, Value};
+use vector::{MAX_IMAGINARY, MOST_TRIPLETS};
+
+// The most outputs of a record. Origin: document 01, refusal 2.
+const OUTPUTS: usize = 40;
+
+// Neighbours of an imaginary point in the record. Origin: crate layout_record.
+const NEIGHBOURS: usize = 40;
 
 // ---- a value
 
-fn holds(is: bool, field: &'static str) -> Result<(), Difference<&'static str>> {
-    if is {
-        Ok(())
-    } else {
-        Err(Difference::At(field))
-    }
+// A value in a place that is used: the next word says it.
+fn word<R: Answer>(
+    words: &mut Words<'_>,
+    got: R,
+    field: &'static str,
+) -> Result<(), Difference<&'static str>> {
+    Difference::unless(words.says(got)?, field)
 }
 
-// A value in a place that is used or not. A place that is not used has no word, so the flag decides whether one is read.
+// A value in a place that is not used, which has no word.
+fn unused<R: Answer>(got: R, field: &'static str) -> Result<(), Difference<&'static str>> {
+    Difference::unless(got.value().agrees(Value::Bits(0)), field)
+}
+
+// A value in a place of a list, of which the first ones are used. In place of the flag the words could be an Option, which would have to be lent anew at each call.
 fn place<R: Answer>(
     words: &mut Words<'_>,
     used: bool,
@@ -26,21 +39,23 @@ fn place<R: Answer>(
     field: &'static str,
 ) -> Result<(), Difference<&'static str>> {
     if used {
-        return holds(words.says(got)?, field);
+        word(words, got, field)
+    } else {
+        unused(got, field)
     }
-    holds(got.value().agrees(Value::Bits(0)), field)
 }
 
-// A count, which its array has to hold.
+// A count, which is at most so many.
 fn count(
     words: &mut Words<'_>,
-    used: bool,
     got: u8,
-    most: u8,
+    most: usize,
     field: &'static str,
-) -> Result<(), Difference<&'static str>> {
-    place(words, used, got, field)?;
-    holds(got <= most, field)
+) -> Result<usize, Difference<&'static str>> {
+    word(words, got, field)?;
+    let count = usize::from(got);
+    Difference::unless(count <= most, field)?;
+    Ok(count)
 }
 
 // ---- planar
@@ -69,16 +84,14 @@ fn pair(words: &mut Words<'_>, used: bool, p: &PlanarPair) -> Result<(), Differe
 
 // What stands in the record before the hull's fields.
 fn planar(words: &mut Words<'_>, p: &VbapPanner) -> Result<(), Difference<&'static str>> {
-    count(words, true, p.num_outputs, 40, "num_outputs")?;
-    place(words, true, p.kind as u8, "kind")?;
-    place(words, true, p.mono, "mono")?;
-    count(words, true, p.num_pairs, 40, "num_pairs")?;
-    let pairs = usize::from(p.num_pairs);
+    count(words, p.num_outputs, OUTPUTS, "num_outputs")?;
+    word(words, p.kind as u8, "kind")?;
+    word(words, p.mono, "mono")?;
+    let pairs = count(words, p.num_pairs, p.pairs.len(), "num_pairs")?;
     for (i, of) in p.pairs.iter().enumerate() {
         pair(words, i < pairs, of)?;
     }
-    count(words, true, p.num_slots, 40, "num_slots")?;
-    let slots = usize::from(p.num_slots);
+    let slots = count(words, p.num_slots, p.slots.len(), "num_slots")?;
     for (i, slot) in p.slots.iter().enumerate() {
         place(words, i < slots, *slot, "slots")?;
     }
@@ -89,8 +102,7 @@ fn planar(words: &mut Words<'_>, p: &VbapPanner) -> Result<(), Difference<&'stat
 
 // The real points: each one's slot and the three numbers of its direction.
 fn points(words: &mut Words<'_>, p: &VbapPanner) -> Result<(), Difference<&'static str>> {
-    count(words, true, p.num_real, 40, "num_real")?;
-    let real = usize::from(p.num_real);
+    let real = count(words, p.num_real, p.pt_out.len(), "num_real")?;
     let points = p.pt_out.iter().zip(p.pt_dir.chunks_exact(3));
     for (i, (slot, dir)) in points.enumerate() {
         place(words, i < real, *slot, "pt_out")?;
@@ -103,15 +115,13 @@ fn points(words: &mut Words<'_>, p: &VbapPanner) -> Result<(), Difference<&'stat
 
 // The triplets: each one's point numbers and inverse.
 fn triplets(words: &mut Words<'_>, p: &VbapPanner) -> Result<(), Difference<&'static str>> {
-    count(words, true, p.num_tris, 80, "num_tris")?;
-    let tris = usize::from(p.num_tris);
+    let tris = count(words, p.num_tris, MOST_TRIPLETS, "num_tris")?;
     for (t, points) in p.idx.chunks_exact(3).enumerate() {
         for x in points {
             place(words, t < tris, *x, "idx")?;
         }
-        // an inverse's entries stand 80 apart, where no slice reaches them
-        for e in 0..9 {
-            place(words, t < tris, p.inv[e * 80 + t], "inv")?;
+        for x in p.inv.iter().skip(t).step_by(MOST_TRIPLETS) {
+            place(words, t < tris, *x, "inv")?;
         }
     }
     Ok(())
@@ -119,13 +129,17 @@ fn triplets(words: &mut Words<'_>, p: &VbapPanner) -> Result<(), Difference<&'st
 
 // The imaginary points: each one's count of neighbours, and these. An unused one's count is 0.
 fn imaginary(words: &mut Words<'_>, p: &VbapPanner) -> Result<(), Difference<&'static str>> {
-    count(words, true, p.num_imag, 14, "num_imag")?;
-    let imag = usize::from(p.num_imag);
-    let lists = p.num_nbrs.iter().zip(p.imag_nbrs.chunks_exact(40));
+    let imag = count(words, p.num_imag, MAX_IMAGINARY, "num_imag")?;
+    let lists = p.num_nbrs.iter().zip(p.imag_nbrs.chunks_exact(NEIGHBOURS));
     for (k, (nbrs, list)) in lists.enumerate() {
-        count(words, k < imag, *nbrs, 40, "num_nbrs")?;
+        let near = if k < imag {
+            count(words, *nbrs, list.len(), "num_nbrs")?
+        } else {
+            unused(*nbrs, "num_nbrs")?;
+            0
+        };
         for (j, slot) in list.iter().enumerate() {
-            place(words, j < usize::from(*nbrs), *slot, "imag_nbrs")?;
+            place(words, j < near, *slot, "imag_nbrs")?;
         }
     }
     Ok(())
@@ -138,12 +152,12 @@ pub fn check_made(
     words: &mut Words<'_>,
     made: Result<NewPanner, Refusal>,
 ) -> Result<(), Difference<&'static str>> {
-    place(words, true, number_in(&made), "number")?;
+    word(words, number_in(&made), "number")?;
     let made = made.unwrap_or(NewPanner {
         panner: no_panner(),
         imaginary: 0,
     });
-    place(words, true, made.imaginary, "imaginary")?;
+    word(words, made.imaginary, "imaginary")?;
     let p = &made.panner;
     planar(words, p)?;
     points(words, p)?;

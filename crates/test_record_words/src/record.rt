@@ -2,6 +2,10 @@
 use layout_planar::{Law, PlanarPair};
 use layout_record::{Kind, VbapPanner, no_panner};
 use test_lines::{Malformed, Words};
+use vector::{MAX_IMAGINARY, MOST_TRIPLETS};
+
+// Neighbours of an imaginary point in the record. Origin: crate layout_record.
+const NEIGHBOURS: usize = 40;
 
 // ---- planar
 
@@ -24,12 +28,12 @@ fn pair(words: &mut Words<'_>) -> Result<PlanarPair, Malformed> {
 }
 
 fn planar(words: &mut Words<'_>, p: &mut VbapPanner) -> Result<(), Malformed> {
-    let pairs = words.up_to(40)?;
+    let pairs = words.up_to(p.pairs.len())?;
     p.num_pairs = pairs as u8;
     for to in &mut p.pairs[..pairs] {
         *to = pair(words)?;
     }
-    let slots = words.up_to(40)?;
+    let slots = words.up_to(p.slots.len())?;
     p.num_slots = slots as u8;
     words.fill(&mut p.slots[..slots])
 }
@@ -38,7 +42,7 @@ fn planar(words: &mut Words<'_>, p: &mut VbapPanner) -> Result<(), Malformed> {
 
 // The real points: each one's slot and direction.
 fn points(words: &mut Words<'_>, p: &mut VbapPanner) -> Result<(), Malformed> {
-    let count = words.up_to(40)?;
+    let count = words.up_to(p.pt_out.len())?;
     p.num_real = count as u8;
     let dirs = p.pt_dir.chunks_exact_mut(3);
     for (slot, dir) in p.pt_out.iter_mut().zip(dirs).take(count) {
@@ -50,13 +54,12 @@ fn points(words: &mut Words<'_>, p: &mut VbapPanner) -> Result<(), Malformed> {
 
 // The triplets: each one's point numbers and inverse.
 fn triplets(words: &mut Words<'_>, p: &mut VbapPanner) -> Result<(), Malformed> {
-    let count = words.up_to(80)?;
+    let count = words.up_to(MOST_TRIPLETS)?;
     p.num_tris = count as u8;
     for (t, points) in p.idx.chunks_exact_mut(3).take(count).enumerate() {
         words.fill(points)?;
-        // an inverse's entries stand 80 apart, where no slice reaches them
-        for e in 0..9 {
-            p.inv[e * 80 + t] = words.read()?;
+        for x in p.inv.iter_mut().skip(t).step_by(MOST_TRIPLETS) {
+            *x = words.read()?;
         }
     }
     Ok(())
@@ -64,35 +67,25 @@ fn triplets(words: &mut Words<'_>, p: &mut VbapPanner) -> Result<(), Malformed> 
 
 // The imaginary points: each one's neighbours.
 fn imaginary(words: &mut Words<'_>, p: &mut VbapPanner) -> Result<(), Malformed> {
-    let count = words.up_to(14)?;
+    let count = words.up_to(MAX_IMAGINARY)?;
     p.num_imag = count as u8;
-    let lists = p.imag_nbrs.chunks_exact_mut(40);
+    let lists = p.imag_nbrs.chunks_exact_mut(NEIGHBOURS);
     for (count, list) in p.num_nbrs.iter_mut().zip(lists).take(count) {
-        let n = words.up_to(40)?;
-        *count = n as u8;
-        for slot in list.iter_mut().take(n) {
-            *slot = words.read()?;
-        }
+        let slots = words.list(list)?;
+        *count = u8::try_from(slots.len()).map_err(|_| Malformed)?;
     }
     Ok(())
 }
 
 // ---- the record
 
-// The numbers are those of the lists, each tested as it is read; a conversion of its own would be no plainer.
-fn kind(words: &mut Words<'_>) -> Result<Kind, Malformed> {
-    Ok(match words.up_to(3)? {
-        0 => Kind::Silent,
-        1 => Kind::Mono,
-        2 => Kind::Planar,
-        _ => Kind::Hull,
-    })
-}
+// The kinds in the order of their numbers. Origin: docs/CASES.md, "Rows and ramps".
+const KINDS: [Kind; 4] = [Kind::Silent, Kind::Mono, Kind::Planar, Kind::Hull];
 
 pub fn record(words: &mut Words<'_>) -> Result<VbapPanner, Malformed> {
     let mut p = no_panner();
     p.num_outputs = words.read()?;
-    p.kind = kind(words)?;
+    p.kind = words.one_of(&KINDS)?;
     p.mono = words.read()?;
     planar(words, &mut p)?;
     points(words, &mut p)?;
