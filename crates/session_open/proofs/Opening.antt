@@ -1,7 +1,7 @@
 -- The answer of open, case by case, from the answer of `layout_new::new`: 1 and 2 are its own, then 3, then 4. Assumes nothing.
 use Prim.Native.Nat.{ℕ, ◌%◌, ◌≤◌}
 use mathlib.Core.Path.{◌≡◌, refl, sym, ap, ◌∙◌}
-use mathlib.Core.Bool.{Bool, true, false, ◌&&◌, ◌||◌, not, cond, false≢true, true≢false}
+use mathlib.Core.Bool.{Bool, true, false, ◌||◌, not, cond, false≢true, true≢false}
 use mathlib.Core.List.{List}
 use native.Mathlib.Omega.{arith}
 use borrow.Author.Tests.{ltb-false, le-ltb, eqb-true, eq-eqb, ne_eqb}
@@ -9,10 +9,10 @@ use lib.Dec.{eqb, ltb}
 use lib.Ieee.{Float}
 use lib.ListN.{length}
 use Rattle.layout_record.specs.Shape.{imaginary_in}
-use Rattle.lists.proofs.Tests.{neither, both}
+use Rattle.lists.proofs.Tests.{neither}
 use Rattle.std.proofs.Common.{Result, Ok, Err}
 use Rattle.refusals.specs.declared.Refusal.{Refusal}
-use Rattle.refusals.specs.Refusals.{number_of as refusal_number, number_in}
+use Rattle.refusals.specs.Refusals.{number_of as refusal_number}
 use Rattle.session_calls.proofs.Refusals.{refused}
 use Rattle.layout_new.specs.declared.NewPanner.{NewPanner}
 use Rattle.layout_new.specs.Layout.{NewAnswer, new_answer, outputs_of, active, layout_of, too_many_triplets, new_refusal, panner_of, new_of}
