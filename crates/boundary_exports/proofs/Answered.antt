@@ -2,7 +2,6 @@
 use Prim.Native.Nat.{ℕ}
 use mathlib.Core.Path.{◌≡◌, refl, ap, ◌∙◌}
 use mathlib.Core.List.{List}
-use borrow.Author.Tests.{ne_eqb}
 use lib.Ieee.{Float}
 use Rattle.session_calls.specs.declared.Session.{Session}
 use Rattle.std.proofs.Common.{Result, Ok, Err}
@@ -10,7 +9,7 @@ use Rattle.refusals.specs.declared.Refusal.{Refusal}
 use Rattle.refusals.specs.Refusals.{number_in}
 use Rattle.layout_record.specs.Malformed.{outputs_answer}
 use Rattle.session_calls.specs.Answers.{Answer}
-use Rattle.boundary_records.specs.Sessions.{session_from, written, bytes_left, floats_left}
+use Rattle.boundary_records.specs.Sessions.{session_from, bytes_left, floats_left}
 
 -- what is made of the session that was taken in is made of the session that the arrays stand for
 pub seen : {A : Type 0} (made : Session → A) {s t : Session} {x : A} → s ≡ t → x ≡ made s → x ≡ made t
@@ -31,7 +30,3 @@ pub left : (bytes : List ℕ) (floats : List Float) (call : Session → Answer) 
 left bytes floats call taken done n b f =
     let e = seen call taken done in
     (n ∙ ap (λ (a : Answer). a.number) e, (b ∙ ap (bytes_left bytes) e, f ∙ ap (floats_left floats) e))
-
--- beside a refusal a place is as it was
-pub kept : {A : Type 0} (number : ℕ) (made before : A) → (number ≡ 0 → ⊥) → before ≡ written number made before
-kept number made before h = rw (ne_eqb number 0 h)

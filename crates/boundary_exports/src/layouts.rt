@@ -23,14 +23,12 @@ pub fn panner_new(
     ensures bytes { bytes.new ≡ written result (record_bytes (new_of positions.now lfe.now).panner) bytes.old }
     ensures floats { floats.new ≡ written result (record_floats (new_of positions.now lfe.now).panner) floats.old }
 {
-    match layout_new::new(positions, lfe) {
-        Ok(made) => {
-            *imaginary = made.imaginary;
-            hand_out(&made.panner, bytes, floats);
-            0
-        }
-        Err(why) => why.number(),
+    let answer = layout_new::new(positions, lfe);
+    if let Ok(made) = &answer {
+        *imaginary = made.imaginary;
+        hand_out(&made.panner, bytes, floats);
     }
+    number_in(&answer)
 }
 
 // `layout_record::num_outputs`: 0 and the count of outputs, or 11 and the count stays as it was.
@@ -39,13 +37,11 @@ pub fn panner_num_outputs(bytes: &RecordBytes, floats: &RecordFloats, count: &mu
     ensures count { count.new ≡ written result (num_outputs_of (record_from bytes.now floats.now)).count count.old }
 {
     let p = taken_in(bytes, floats);
-    match layout_record::num_outputs(&p) {
-        Ok(outputs) => {
-            *count = outputs;
-            0
-        }
-        Err(why) => why.number(),
+    let counted = layout_record::num_outputs(&p);
+    if let Ok(outputs) = &counted {
+        *count = *outputs;
     }
+    number_in(&counted)
 }
 
 // `row_gains::gains`. A NaN in a row of a record made by hand is computed: its sign and payload are the program's choice, and each is a quiet NaN.

@@ -8,6 +8,7 @@ ghost use Rattle.session_open.specs.Open.{open_of};
 ghost use Rattle.boundary_records.specs.Sessions.{session_bytes, session_floats, session_from, written, bytes_left, floats_left, place_take_back};
 
 use boundary_records::sessions::{SessionBytes, SessionFloats, hand_out, leave, taken_in};
+use refusals::number_in;
 
 // `session_open::open`: its number, and where it is 0 the imaginary count and the session. No float of such a session is a NaN.
 pub fn panner_open(
@@ -23,14 +24,12 @@ pub fn panner_open(
     ensures bytes { bytes.new ≡ written result (session_bytes (open_of positions.now lfe.now sources).session) bytes.old }
     ensures floats { floats.new ≡ written result (session_floats (open_of positions.now lfe.now sources).session) floats.old }
 {
-    match session_open::open(positions, lfe, sources) {
-        Ok(opened) => {
-            *imaginary = opened.imaginary;
-            hand_out(&opened.session, bytes, floats);
-            0
-        }
-        Err(why) => why.number(),
+    let answer = session_open::open(positions, lfe, sources);
+    if let Ok(opened) = &answer {
+        *imaginary = opened.imaginary;
+        hand_out(&opened.session, bytes, floats);
     }
+    number_in(&answer)
 }
 
 // `session_calls::place`. Every float travels, and an angle that is not finite is written as +0.
