@@ -296,16 +296,11 @@ pub fn min32(x: f32, y: f32) -> f32
 }
 
 // From 0 to 1; a NaN and -0 stay as they came. Origin of 0 and 1: the bounds of every clamp in vbap.rs, lines 90, 149, 151 and 484.
+#[tactic(auto, unfolding(crate::specs::Order::clamp_of))]
 pub fn clamp(x: f32) -> f32
     ensures { result ≡ clamp_of x }
 {
-    if x < 0.0 {
-        return 0.0;
-    }
-    if x > 1.0 {
-        return 1.0;
-    }
-    x
+    x.clamp(0.0, 1.0)
 }
 
 // The square of the square.

@@ -123,15 +123,15 @@ pub fn narrow(x: f64) -> f32
 
 // ---- whole numbers
 
-// The f32 nearest to n. It has no form with the f64's below: the digits of a u64 that an f64 drops are dropped by std's function.
+// The f32 nearest to n. Small numbers, which the panner has, are cast: no digit of them is dropped.
 pub fn f32_from_u64(n: u64) -> f32
     ensures { result ≡ of_int binary32 (pos n) }
 {
-    // Origin: 2^24, below which every whole number is an f32. From there on n is n * 2^1074 / 2^1074
+    // Origin: 2^24, below which every whole number is an f32
     if n < 0x100_0000 {
         n as f32
     } else {
-        pack32(false, n, 1074)
+        std::num::nearest_u64_to_f32(n)
     }
 }
 

@@ -5,7 +5,6 @@ use mathlib.Core.Bool.{Bool, true, false, ◌||◌}
 use mathlib.Core.List.{List, [], ◌∷◌, foldl}
 use native.Mathlib.Numerals.{add-one}
 use native.Mathlib.Omega.{arith}
-use Rattle.std.specs.List.{list_any}
 use lib.ListN.{length, get_or, take}
 use lib.Seq.{take-suc, take_all}
 use Rattle.lists.specs.Lists.{any, member}
@@ -13,12 +12,6 @@ use Rattle.lists.proofs.Collect.{foldl_snoc}
 use Rattle.lists.proofs.Tests.{cond_yes, cond_no}
 use Rattle.layout_neighbours.specs.Neighbours.{Reach, reach, across}
 use Rattle.layout_neighbours.specs.Inner.Search.{Arrays, Holds, Leads, Slots, Points}
-
--- std's test of a list is the definition's
-pub any_listed : {A : Type 0} (f : A → Bool) (l : List A) → list_any f l ≡ any f l
-unfolding any
-any_listed f [] = refl
-any_listed f (a ∷ l) = ap (λ b. f a || b) (any_listed f l)
 
 -- one of the points is marked
 abbrev pub marked_in : List Bool → List ℕ → Bool

@@ -10,7 +10,7 @@ use Rattle.std.proofs.lemmas.List.Folds.{list_any_at}
 use Rattle.lists.specs.Lists.{every, any, part, range, from}
 use Rattle.lists.proofs.Collect.{flat_map_snoc}
 use Rattle.lists.proofs.Ranges.{range_snoc, length_range, get_d_range}
-use Rattle.lists.proofs.Tests.{every_none, every_take, every_part, any_append, any_never, any_flat_map, neither}
+use Rattle.lists.proofs.Tests.{every_none, every_take, every_part, any_is, any_append, any_never, any_flat_map, neither}
 
 -- where no element passes a test, each passes one that follows from that
 pub every_if_none : {A : Type 0} {f g : A → Bool} → ((a : A) → f a ≡ false → g a ≡ true) → (l : List A) → any f l ≡ false → every g l ≡ true

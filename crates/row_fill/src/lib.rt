@@ -37,13 +37,12 @@ fn to_imag(sums: &mut [f32; MAX_IMAGINARY], n: usize, p: u8, g: f32)
 }
 
 // The numbers of triplet t's points.
+#[tactic(auto, unfolding(vector::specs::Vector::places_in))]
 fn corners(panner: &VbapPanner, t: usize) -> [u8; 3]
     requires { t < 80 }
     ensures { result ≡ corners panner.now.idx t }
 {
-    // not `vector::point`, which is of f64
-    let at = t * 3;
-    [panner.idx[at], panner.idx[at + 1], panner.idx[at + 2]]
+    vector::point(&panner.idx, t)
 }
 
 // The gains of three points to the real ones.
@@ -51,9 +50,8 @@ fn corners(panner: &VbapPanner, t: usize) -> [u8; 3]
 fn real_points(out: &mut [f32], slots: &[u8], points: [u8; 3], g: [f32; 3])
     ensures { out.new ≡ real_points slots.now points g out.old }
 {
-    // tried as a zip of both without an invariant: the search did not close it; by the range the invariant can name the place
-    for i in 0..3 {
-        to_real(out, slots, points[i], g[i]);
+    for (i, p) in points.iter().enumerate() {
+        to_real(out, slots, *p, g[i]);
     }
 }
 
@@ -63,8 +61,8 @@ fn imag_points(n: usize, points: [u8; 3], g: [f32; 3]) -> [f32; MAX_IMAGINARY]
     ensures { result ≡ imag_points n points g }
 {
     let mut sums = [0.0; MAX_IMAGINARY];
-    for i in 0..3 {
-        to_imag(&mut sums, n, points[i], g[i]);
+    for (i, p) in points.iter().enumerate() {
+        to_imag(&mut sums, n, *p, g[i]);
     }
     sums
 }
@@ -97,8 +95,8 @@ fn share_out(out: &mut [f32], panner: &VbapPanner, sums: &[f32; MAX_IMAGINARY])
     requires { PointCounts panner.now }
     ensures { out.new ≡ shared_out panner.now.num_nbrs panner.now.imag_nbrs sums.now panner.now.num_imag out.old }
 {
+    // tried by `enumerate` over a cut of the sums: k names the neighbours there too, so it is no plainer, and the check asks for an answer
     for k in 0..panner.num_imag as usize {
-        // the number k is used too, not only as an index
         share(out, panner.neighbours(k), sums[k]);
     }
 }

@@ -30,12 +30,12 @@ fn lesser(a: f32, b: f32) -> f32
     if (b < a) | (a != a) { b } else { a }
 }
 
-// The product of a row of three numbers with the direction. Not `vector::dot`, which is of f64: a product over a trait of both widths is no plainer.
+// The product of a row with the direction. Not `vector::dot`, which is of f64: over a trait of both widths its sum would be calls in place of operators.
 #[tactic(auto, unfolding(vector::specs::Vector::dot_in))]
-fn dot(a: f32, b: f32, c: f32, s: [f32; 3]) -> f32
-    ensures { result ≡ dot_in binary32 (a ∷ b ∷ c ∷ []) s }
+fn dot(row: [f32; 3], s: [f32; 3]) -> f32
+    ensures { result ≡ dot_in binary32 row s }
 {
-    a * s[0] + b * s[1] + c * s[2]
+    row[0] * s[0] + row[1] * s[1] + row[2] * s[2]
 }
 
 // Row r of the inverse of triplet t, times the direction.
@@ -45,7 +45,7 @@ fn gain(inv: &[f32; 720], t: usize, r: usize, s: [f32; 3]) -> f32
     ensures { result ≡ gain_at s inv.now t r }
 {
     let at = r * 240 + t;
-    dot(inv[at], inv[at + 80], inv[at + 160], s)
+    dot([inv[at], inv[at + 80], inv[at + 160]], s)
 }
 
 fn gains_at(inv: &[f32; 720], t: usize, s: [f32; 3]) -> [f32; 3]
@@ -67,13 +67,12 @@ fn chosen(panner: &VbapPanner, s: [f32; 3]) -> Option<usize>
     ensures place { (none : ℕ) → unwrap_or result none ≡ first_greatest none (leasts_of s panner.now.inv panner.now.num_tris) }
     ensures within { IfSome result (λ t. t < panner.now.num_tris) }
 {
-    let n = panner.num_tris as usize;
-    let mut leasts = [0.0; 80];
-    // the number t is used too, not only as an index
-    for t in 0..n {
-        leasts[t] = least(gains_at(&panner.inv, t, s));
+    let mut room = [0.0; 80];
+    let leasts = &mut room[..panner.num_tris as usize];
+    for (t, l) in leasts.iter_mut().enumerate() {
+        *l = least(gains_at(&panner.inv, t, s));
     }
-    row_greatest::first_greatest(&leasts[..n])
+    row_greatest::first_greatest(leasts)
 }
 
 // ---- power
@@ -115,9 +114,7 @@ fn product(dirs: &[f32; 120], i: usize, s: [f32; 3]) -> f32
     requires { i < 40 }
     ensures { result ≡ dot_in binary32 (part 3 dirs.now i) s }
 {
-    // not `vector::point`, which is of f64
-    let at = i * 3;
-    dot(dirs[at], dirs[at + 1], dirs[at + 2], s)
+    dot(vector::point(dirs, i), s)
 }
 
 // The number of the real point whose product with the direction is greatest; 0 where there is none.
@@ -125,13 +122,12 @@ fn nearest_point(panner: &VbapPanner, s: [f32; 3]) -> usize
     requires { PointCounts panner.now }
     ensures { result ≡ first_greatest 0 (products_of s panner.now.pt_dir panner.now.num_real) }
 {
-    let n = panner.num_real as usize;
-    let mut products = [0.0; 40];
-    // the number i is used too, not only as an index
-    for i in 0..n {
-        products[i] = product(&panner.pt_dir, i, s);
+    let mut room = [0.0; 40];
+    let products = &mut room[..panner.num_real as usize];
+    for (i, p) in products.iter_mut().enumerate() {
+        *p = product(&panner.pt_dir, i, s);
     }
-    row_greatest::first_greatest(&products[..n]).unwrap_or(0)
+    row_greatest::first_greatest(products).unwrap_or(0)
 }
 
 // +0 throughout, and 1 in the slot of the nearest real point; nothing there where there is none.

@@ -9,7 +9,6 @@ use lib.Dec.{eqb, ltb, leb}
 use lib.Ieee.{Float}
 use lib.ListN.{get_or}
 use Rattle.std.proofs.Common.{Result, Ok, Err}
-use Rattle.std.specs.List.{list_any}
 use Rattle.std.specs.Result.{IsErrAnd}
 use Rattle.lists.specs.Lists.{any}
 use Rattle.layout_record.specs.Malformed.{malformed_of}
@@ -53,12 +52,6 @@ formed s e = formed_by depth s e
 
 pub formed_is : (s : Session) → Formed s → malformed_session s ≡ false
 formed_is s f = formed_by_is depth s f
-
--- std's test of a list and ours are one
-pub any_same : {A : Type 0} (f : A → Bool) (l : List A) → list_any f l ≡ any f l
-unfolding any
-any_same f [] = refl
-any_same f (x ∷ l) = rw (any_same f l)
 
 pub none_at : (b : ℕ) (l : List ℕ) (i : ℕ) → any (λ n. ltb b n) l ≡ false → get_or l i 0 ≤ b
 unfolding any

@@ -1,7 +1,7 @@
 // A session by value: placements that stand for each source, and the row from which its next render starts.
 #![tactic(auto)]
 
-ghost use Rattle.std.specs.Prelude.{◌≡◌, ◌<◌, ltb};
+ghost use Rattle.std.specs.Prelude.{◌≡◌, ◌<◌, ltb, Float};
 ghost use Rattle.refusals.specs.Refusals.{number_in};
 ghost use Rattle.lists.specs.Lists.{any};
 ghost use Rattle.session_history.specs.Calls.{place, take_back, settle};
@@ -58,10 +58,10 @@ fn source_refusal(s: &Session, source: usize) -> Result<(), Refusal>
     Ok(())
 }
 
-// What refuses a place: the shared refusals, then a full list. az and el serve the promise alone.
+// What refuses a place, whatever its direction: the shared refusals, then a full list.
 #[tactic(auto, using(crate::proofs::Refusals::shared_source))]
-pub fn place_refusal(s: &Session, source: usize, az: f32, el: f32) -> Result<(), Refusal>
-    ensures { number_in result ≡ number_of s.now (place source az el) }
+pub fn place_refusal(s: &Session, source: usize) -> Result<(), Refusal>
+    ensures { (az el : Float) → number_in result ≡ number_of s.now (place source az el) }
 {
     source_refusal(s, source)?;
     if s.counts[source] >= DEPTH {
@@ -98,7 +98,7 @@ pub fn with_starts(s: Session, starts: Starts) -> Session
 pub fn place_on(s: &mut Session, source: usize, az: f32, el: f32) -> Result<(), Refusal>
     ensures { left result s.new ≡ answer_of s.old (place source az el) }
 {
-    place_refusal(&*s, source, az, el)?;
+    place_refusal(&*s, source)?;
     let n = s.counts[source];
     let az = row_gains::finite_or_0(az);
     let el = row_gains::finite_or_0(el);

@@ -71,7 +71,7 @@ pub fn less(a: [f64; 3], b: [f64; 3]) -> [f64; 3]
 pub fn over(a: [f64; 3], l: f64) -> [f64; 3]
     ensures { result ≡ over_of a l }
 {
-    [a[0] / l, a[1] / l, a[2] / l]
+    a.map(|x| x / l)
 }
 
 // -a.
@@ -79,7 +79,7 @@ pub fn over(a: [f64; 3], l: f64) -> [f64; 3]
 pub fn negated(a: [f64; 3]) -> [f64; 3]
     ensures { result ≡ negated_of a }
 {
-    [-a[0], -a[1], -a[2]]
+    a.map(|x| -x)
 }
 
 // The square root of a·a.

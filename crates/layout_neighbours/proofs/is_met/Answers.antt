@@ -7,7 +7,7 @@ use Rattle.std.proofs.lemmas.Grind.{get_or_default_zero}
 use Rattle.std.proofs.lemmas.Iterator.{YieldsList-from_slice}
 use Rattle.std.proofs.lemmas.Iterator.Adapters.{serves_from_places}
 use Rattle.std.proofs.lemmas.Iterator.Search.{any_from_yields_List}
-use Rattle.layout_neighbours.proofs.Triplet.{any_listed}
+use Rattle.lists.proofs.Tests.{any_is}
 use Rattle.layout_neighbours.proofs.is_met.Goals as goal
 
 pub any-requires-clause-callable : goal.any-requires-clause-callable
@@ -18,4 +18,4 @@ any-requires-clause-callable c =
 pub returns : goal.returns
 returns c =
     any_from_yields_List (λ p. get_or c.args.visited.now p false) _ _ _ c.any.ensures.ran (YieldsList-from_slice c.args.t.now cc) (λ x b q k. search (rules, tests))
-    ∙ any_listed (λ p. get_or c.args.visited.now p false) c.args.t.now
+    ∙ any_is (λ p. get_or c.args.visited.now p false) c.args.t.now

@@ -7,4 +7,4 @@ use Rattle.row_fill.specs.Inner.Filling.{to_real}
 use Rattle.row_fill.proofs.real_points.Given as goal
 
 abbrev pub invariant-loop-i : goal.invariant-loop-i
-invariant-loop-i l = l.out ≡ foldl (λ r i. to_real l.slots r (get_or l.points i 0) (get_or l.g i nan)) l.initial.out (range l.i)
+invariant-loop-i l = l.out ≡ foldl (λ r i. to_real l.slots r (get_or l.fn.points i 0) (get_or l.g i nan)) l.initial.out (range l.i)
