@@ -9,14 +9,16 @@ ghost use Rattle.float_sine.specs.Quarter.{number_of};
 ghost use Rattle.float_sine.specs.Series.{sum_of};
 ghost use Rattle.float_sine.specs.Sine.{4·0, remainder, nearest_whole, mod4, sin_of, cos_of, sin32_of, cos32_of};
 
+use std::f64::consts;
+
 // Origin: document 01, "Number work": the 64-bit float nearest pi, 400921fb54442d18.
-pub const PI64: f64 = 3.141592653589793;
+pub const PI64: f64 = consts::PI;
 
 // Origin: document 01, "Number work": twice PI64, 401921fb54442d18.
-pub const TWO_PI: f64 = 6.283185307179586;
+pub const TWO_PI: f64 = consts::TAU;
 
 // Origin: document 01, "Number work": half of PI64, 3ff921fb54442d18.
-pub const HALF_PI: f64 = 1.5707963267948966;
+pub const HALF_PI: f64 = consts::FRAC_PI_2;
 
 // The coefficients of S, (-1)^i / (2i + 1)!, each quotient rounded once, with its pattern beside it. Origin: document 01, S.
 const SINES: [f64; 9] = [

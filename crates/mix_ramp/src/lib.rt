@@ -14,7 +14,7 @@ const EXACT_COUNTS: usize = 16777216;
 
 // The three functions below take slices of one length, as `ramp_add` cuts them; a struct of the two would say no more than that.
 
-// Every sample at one gain. By the place: after `iter_mut().zip(..)` a proof knows nothing of the elements.
+// Every sample at one gain. src by the place: after `iter_mut().zip(src)` a proof knows nothing of the elements.
 fn steady(dst: &mut [f32], src: &[f32], g: f32)
     requires { length dst.old ≡ length src.now }
     ensures { dst.new ≡ foldl (steady_turn src.now g) dst.old (range (length dst.old)) }

@@ -4,6 +4,7 @@
 ghost use Rattle.std.specs.Prelude.{◌≡◌};
 ghost use Rattle.refusals.specs.Refusals.{number_of, number_in};
 
+use std::error::Error;
 use std::fmt;
 
 // The refusals in the order of their numbers, which are document 01's.
@@ -60,3 +61,5 @@ impl fmt::Display for Refusal {
         })
     }
 }
+
+impl Error for Refusal {}

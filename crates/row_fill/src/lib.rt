@@ -19,9 +19,8 @@ const LAST: usize = MAX_IMAGINARY - 1;
 fn to_real(out: &mut [f32], slots: &[u8], p: u8, g: f32)
     ensures { out.new ≡ to_real slots.now out.old p g }
 {
-    let p = p as usize;
-    if p < slots.len() {
-        row_places::add_at(out, slots[p], float_order::max(g, 0.0));
+    if let Some(slot) = slots.get(p as usize) {
+        row_places::add_at(out, *slot, float_order::max(g, 0.0));
     }
 }
 

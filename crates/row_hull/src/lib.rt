@@ -139,8 +139,8 @@ fn nearest(out: &mut [f32], panner: &VbapPanner, s: [f32; 3])
     let i = nearest_point(panner, s);
     let slots = panner.real_slots();
     row_places::zero(out);
-    if i < slots.len() {
-        row_places::put(out, slots[i], 1.0);
+    if let Some(slot) = slots.get(i) {
+        row_places::put(out, *slot, 1.0);
     }
 }
 

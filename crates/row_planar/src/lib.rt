@@ -8,6 +8,8 @@ ghost use Rattle.float_order.specs.Values.{+0};
 ghost use Rattle.row_planar.specs.PlanarRow.{rel, contains, chosen, by_inverse, shaped, by_crossfade, by_law, planar_spread, spread_gain, spread_at, spread, pair_row, planar_row};
 
 use layout_planar::{Law, PlanarPair};
+// Origin: the source's constants, TAU (40c90fdb) at vbap.rs line 464, FRAC_PI_2 (3fc90fdb) at lines 90, 91 and 488.
+use std::f32::consts::{FRAC_PI_2, TAU};
 
 // Origin: vbap.rs line 52; 3db2ca58. The elevation up to which a speaker or a source counts as planar.
 const PLANAR_MAX_ELEVATION: f32 = 0.0873;
@@ -17,12 +19,6 @@ const INSIDE_EPS: f32 = 1e-6;
 
 // Origin: vbap.rs line 493; 2b8cbccc. The norm of a pair's two gains has to be above it: else the row stays silent, and nothing is divided by it.
 const LEAST_PAIR_NORM: f32 = 1e-12;
-
-// Origin: std::f32::consts::TAU, vbap.rs line 464; 40c90fdb.
-const TAU: f32 = 6.2831855;
-
-// Origin: std::f32::consts::FRAC_PI_2, vbap.rs lines 90, 91 and 488; 3fc90fdb.
-const FRAC_PI_2: f32 = 1.5707964;
 
 // The gains of a and b, before they are scaled.
 #[derive(Clone, Copy)]

@@ -6,7 +6,7 @@ use mathlib.Core.List.{List, [], ◌∷◌}
 use native.Mathlib.Omega.{arith}
 use borrow.Author.Tests.{ltb-false, leb-false, eqb-false, lt-leb, le-ltb}
 use lib.Dec.{eqb, ltb, leb}
-use lib.Ieee.{Float}
+use lib.Ieee.{Float, nan}
 use lib.ListN.{get_or}
 use Rattle.std.proofs.Common.{Result, Ok, Err}
 use Rattle.std.specs.Result.{IsErrAnd}
@@ -181,11 +181,11 @@ module _ (s : Session) (i : ℕ) where
   pub shared_few : 0 ≡ on_source s i 0 → standing_count s i ≤ depth
   shared_few z = (passed s i 0 (sym z)).few
 
-  pub place_source : (az el : Float) → 0 ≡ number_of s (place i az el) → i < most_sources
-  place_source az el z = (place_passed s i az el (sym z)).0.source
+  pub place_source : ((az el : Float) → 0 ≡ number_of s (place i az el)) → i < most_sources
+  place_source z = (place_passed s i nan nan (sym (z nan nan))).0.source
 
-  pub place_room : (az el : Float) → 0 ≡ number_of s (place i az el) → standing_count s i < depth
-  place_room az el z = (place_passed s i az el (sym z)).1
+  pub place_room : ((az el : Float) → 0 ≡ number_of s (place i az el)) → standing_count s i < depth
+  place_room z = (place_passed s i nan nan (sym (z nan nan))).1
 
   pub take_source : 0 ≡ number_of s (take_back i) → i < most_sources
   take_source z = (take_passed s i (sym z)).0.source

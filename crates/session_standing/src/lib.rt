@@ -42,6 +42,7 @@ fn keep_last(standing: &mut Standing, first: usize, last: usize)
     requires { (first + depth * 2 ≤ most_sources * (depth * 2)) × (last + 2 ≤ most_sources * (depth * 2)) }
     ensures { standing.new ≡ sets standing.old first (take 2 (drop last standing.old) ++ replicate (depth * 2 - 2) +0) }
 {
+    // tried: with `copy_within` the check does not find the promise, and the two numbers are as many lines
     let az = standing[last];
     let el = standing[last + 1];
     standing[first] = az;
