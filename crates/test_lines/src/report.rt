@@ -1,4 +1,7 @@
 // What every replay writes to standard output.
+ghost use Rattle.std.specs.Prelude.{◌≡◌, ◌+◌, ◌%◌, ◌^◌, true, false, MatchResult};
+ghost use Rattle.test_lines.specs.declared.report.Difference.TheVariants.{At};
+
 use crate::Malformed;
 use std::{fmt, io};
 
@@ -14,7 +17,9 @@ pub enum Difference<T> {
 
 impl<T: Copy> Difference<T> {
     // What was answered, unless it is what the line says.
-    pub fn unless(is_same: bool, got: T) -> Result<(), Difference<T>> {
+    pub fn unless(is_same: bool, got: T) -> Result<(), Difference<T>>
+        ensures { MatchResult result (λ _. is_same ≡ true) (λ d. (is_same ≡ false) × (d ≡ At got)) }
+    {
         if is_same {
             Ok(())
         } else {
@@ -105,12 +110,16 @@ pub struct Tally<T> {
 }
 
 impl<T> Tally<T> {
-    pub fn of(name: &'static str, of: T) -> Tally<T> {
+    pub fn of(name: &'static str, of: T) -> Tally<T>
+        ensures { (result.name.now ≡ name.now) × (result.of ≡ of) × (result.count ≡ 0) }
+    {
         Tally { name, of, count: 0 }
     }
 
     // One line more.
-    pub fn add(&mut self) {
+    pub fn add(&mut self)
+        ensures { (self.new.name.now ≡ self.old.name.now) × (self.new.of ≡ self.old.of) × (self.new.count ≡ (self.old.count + 1) % 2 ^ 64) }
+    {
         self.count = self.count.wrapping_add(1);
     }
 }
