@@ -22,7 +22,7 @@ const LEAST_ROW_POWER: f32 = 1e-12;
 
 // ---- the chosen triplet
 
-// The lesser of two floats; of a NaN and another, the other. Not `float_order::min32`: without a branch many are compared at once.
+// The lesser of two floats; of a NaN and another, the other. Not std's `min`, whose promise leaves open which of two zeros comes, and not `float_order::min32`, whose branches keep many from being compared at once.
 #[tactic(auto, using(crate::proofs::Places::lesser_second, crate::proofs::Places::lesser_first))]
 fn lesser(a: f32, b: f32) -> f32
     ensures { result ≡ min_of a b }
