@@ -3,27 +3,21 @@
 // abs and clamp hand a NaN on as it came, as copies do.
 #![tactic(auto)]
 
-ghost use Rattle.std.specs.Prelude.{◌≡◌, ℕ, ◌+◌, ◌*◌, ◌^◌, ◌<◌, ◌≤◌, T, Float, MatchOption, cond, not, true, false, is_nan, to_bits, from_bits};
-ghost use Rattle.std.specs.Float.{Format, binary32, binary64, inf};
-ghost use Rattle.std.specs.Float.Ieee.{add, div, neg, rem, lt, eq, nan_bits, fits};
+ghost use Rattle.std.specs.Prelude.{◌≡◌, ℕ, ◌*◌, ◌<◌, T, MatchOption, cond, not, true, is_nan, from_bits};
+ghost use Rattle.std.specs.Float.Ieee.{add, rem, lt, nan_bits, fits};
 ghost use Rattle.float_order.specs.Values.{+0, abs, sign_bit, is_finite};
 ghost use Rattle.float_order.specs.Order.{max_of, min_of, clamp_of, powi4_of};
 ghost use Rattle.float_order.specs.Remainder.{rem_euclid_of};
 ghost use Rattle.float_order.specs.Width.{Weights, Patterned, Sizes, weights32, weights64, sizes32, sizes64};
 
 use float_remainder::Field;
+use num_traits::Float;
 
 // ---- the two widths
 
-// A float type: binary32 or binary64 of IEEE 754-2019, table 3.5.
-// Functions stand for the operators: what std's `Add`, `Div`, `Neg` and `PartialOrd` promise of a type parameter is each impl's own, and a law for each, that says it by the format, would be no plainer.
+// A float type of the kit's `num_traits`, whose laws say by its format what the operators do, with its patterns: binary32 or binary64 of IEEE 754-2019, table 3.5.
 // Each number stands as a constant for the code and as a ghost item for the clauses: a clause can't cite a trait's constant, and the check proves the two equal.
-pub trait Width: Copy {
-    // Its format, and a value as the definitions see it.
-    ghost format: { Format };
-
-    ghost value: { Self → Float };
-
+pub trait Width: Float {
     ghost SIGN: { ℕ };
 
     ghost FIELD: { ℕ };
@@ -46,54 +40,26 @@ pub trait Width: Copy {
 
     const LOWEST: u32;
 
-    fn zero() -> Self
-        ensures { value result ≡ +0 };
-
-    fn infinity() -> Self
-        ensures { value result ≡ inf false };
-
     // The bit pattern; of a NaN none, as its bits are the program's.
     fn pattern(self) -> Option<u64>
-        ensures { MatchOption result (is_nan (value self) ≡ true) (Patterned format (value self)) };
+        ensures { MatchOption result (is_nan (Self.float self) ≡ true) (Patterned Self.format (Self.float self)) };
+
+    // `<` of a type parameter goes by `partial_cmp` and its `Option<Ordering>`, and stays so in the machine code: with it `is_finite` has 40 instructions in place of 8. And it says that `self` is a value of the format, which no law of `Float` does.
+    fn is_less(self, other: Self) -> bool
+        ensures held { T (fits Self.format (Self.float self)) }
+        ensures less { result ≡ lt (Self.float self) (Self.float other) };
 
     // The value of a pattern that is no NaN's.
     fn of_pattern(n: u64) -> Self
-        requires { (n < 2 * SIGN) × T (not (nan_bits format n)) }
-        ensures { value result ≡ from_bits format n };
+        requires { (n < 2 * SIGN) × T (not (nan_bits Self.format n)) }
+        ensures { Self.float result ≡ from_bits Self.format n };
 
-    fn is_less(self, other: Self) -> bool
-        ensures held { T (fits format (value self)) }
-        ensures less { result ≡ lt (value self) (value other) };
+    ghost weights: { Weights Self.format SIGN FIELD HIGHEST };
 
-    fn is_equal(self, other: Self) -> bool
-        ensures { result ≡ eq (value self) (value other) };
-
-    fn negated(self) -> Self
-        ensures { value result ≡ neg (value self) };
-
-    fn plus(self, other: Self) -> Self
-        ensures { value result ≡ add format (value self) (value other) };
-
-    fn over(self, other: Self) -> Self
-        ensures { value result ≡ div format (value self) (value other) };
-
-    // Only a NaN differs from itself.
-    final fn is_nan(self) -> bool
-        ensures { result ≡ is_nan (value self) }
-    {
-        !self.is_equal(self)
-    }
-
-    ghost weights: { Weights format SIGN FIELD HIGHEST };
-
-    ghost sizes: { Sizes format DIGITS LOWEST };
+    ghost sizes: { Sizes Self.format DIGITS LOWEST };
 }
 
 impl Width for f32 {
-    ghost format = { binary32 };
-
-    ghost value = { λ x. x };
-
     ghost SIGN = { 0x8000_0000 };
 
     ghost FIELD = { 0x80_0000 };
@@ -123,14 +89,6 @@ impl Width for f32 {
 
     ghost sizes = { sizes32 };
 
-    fn zero() -> f32 {
-        0.0
-    }
-
-    fn infinity() -> f32 {
-        f32::INFINITY
-    }
-
     fn pattern(self) -> Option<u64> {
         if self.is_nan() {
             return None;
@@ -138,36 +96,16 @@ impl Width for f32 {
         Some(f32::to_bits(self) as u64)
     }
 
-    fn of_pattern(n: u64) -> f32 {
-        f32::from_bits(n as u32)
-    }
-
     fn is_less(self, other: f32) -> bool {
         self < other
     }
 
-    fn is_equal(self, other: f32) -> bool {
-        self == other
-    }
-
-    fn negated(self) -> f32 {
-        -self
-    }
-
-    fn plus(self, other: f32) -> f32 {
-        self + other
-    }
-
-    fn over(self, other: f32) -> f32 {
-        self / other
+    fn of_pattern(n: u64) -> f32 {
+        f32::from_bits(n as u32)
     }
 }
 
 impl Width for f64 {
-    ghost format = { binary64 };
-
-    ghost value = { λ x. x };
-
     ghost SIGN = { 0x8000_0000_0000_0000 };
 
     ghost FIELD = { 0x10_0000_0000_0000 };
@@ -197,14 +135,6 @@ impl Width for f64 {
 
     ghost sizes = { sizes64 };
 
-    fn zero() -> f64 {
-        0.0
-    }
-
-    fn infinity() -> f64 {
-        f64::INFINITY
-    }
-
     fn pattern(self) -> Option<u64> {
         if self.is_nan() {
             return None;
@@ -212,28 +142,12 @@ impl Width for f64 {
         Some(f64::to_bits(self))
     }
 
-    fn of_pattern(n: u64) -> f64 {
-        f64::from_bits(n)
-    }
-
     fn is_less(self, other: f64) -> bool {
         self < other
     }
 
-    fn is_equal(self, other: f64) -> bool {
-        self == other
-    }
-
-    fn negated(self) -> f64 {
-        -self
-    }
-
-    fn plus(self, other: f64) -> f64 {
-        self + other
-    }
-
-    fn over(self, other: f64) -> f64 {
-        self / other
+    fn of_pattern(n: u64) -> f64 {
+        f64::from_bits(n)
     }
 }
 
@@ -241,7 +155,7 @@ impl Width for f64 {
 
 // Whether the sign bit is set, of -0 too. The logic's one NaN has no sign, so what a NaN answers is the program's choice: its sign counts as clear.
 pub fn sign_bit<W: Width>(x: W) -> bool
-    ensures { result ≡ sign_bit (W.value x) }
+    ensures { result ≡ sign_bit (W.float x) }
 {
     match x.pattern() {
         Some(p) => p >= W::SIGN,
@@ -251,31 +165,31 @@ pub fn sign_bit<W: Width>(x: W) -> bool
 
 // x without its sign.
 pub fn abs<W: Width>(x: W) -> W
-    ensures { W.value result ≡ abs (W.value x) }
+    ensures { W.float result ≡ abs (W.float x) }
 {
-    if sign_bit(x) { x.negated() } else { x }
+    if sign_bit(x) { -x } else { x }
 }
 
 // Neither a NaN nor an infinity.
 pub fn is_finite<W: Width>(x: W) -> bool
-    ensures { result ≡ is_finite (W.value x) }
+    ensures { result ≡ is_finite (W.float x) }
 {
-    x.is_less(W::infinity()) & W::infinity().negated().is_less(x)
+    x.is_less(W::infinity()) & W::neg_infinity().is_less(x)
 }
 
 // ---- order and powers
 
 // The greater; the other value for a NaN, +0 for two zeros. Of two NaNs the sum, which is a quiet NaN.
 pub fn max<W: Width>(x: W, y: W) -> W
-    ensures { W.value result ≡ max_of (W.value x) (W.value y) }
+    ensures { W.float result ≡ max_of (W.float x) (W.float y) }
 {
     if x.is_nan() {
-        return if y.is_nan() { x.plus(y) } else { y };
+        return if y.is_nan() { x + y } else { y }; // a NaN, and a quiet one, or y
     }
     if y.is_nan() {
         return x;
     }
-    if x.is_equal(W::zero()) & y.is_equal(W::zero()) {
+    if x.is_zero() & y.is_zero() {
         return W::zero();
     }
     if x.is_less(y) { y } else { x }
@@ -315,25 +229,21 @@ pub fn powi4(x: f32) -> f32
 
 // The remainder with the sign of x, as C's fmod has it, by whole-number work: the operator % of floats asks the platform's library for it.
 pub fn rem<W: Width>(x: W, m: W) -> W
-    ensures { W.value result ≡ rem W.format (W.value x) (W.value m) }
+    ensures { W.float result ≡ rem W.format (W.float x) (W.float m) }
 {
-    let Some(p) = x.pattern() else {
-        return x.plus(m)
-    };
-    let Some(q) = m.pattern() else {
-        return x.plus(m)
-    };
+    let Some(p) = x.pattern() else { return x + m };
+    let Some(q) = m.pattern() else { return x + m };
     let (sign, weight, highest) = (W::SIGN, W::FIELD, W::HIGHEST);
     let a = p % sign;
     let b = q % sign;
     if a / weight == highest {
-        return x.plus(x.negated());
+        return x - x;
     }
     if b / weight == highest {
         return x;
     }
     if b == 0 {
-        return m.over(m);
+        return m / m;
     }
     let r = Field { weight }.rem_patterns(a, b);
     W::of_pattern(p - a + r)
@@ -341,16 +251,16 @@ pub fn rem<W: Width>(x: W, m: W) -> W
 
 // r, plus the modulus where r is negative.
 fn raised<W: Width>(r: W, m: W) -> W
-    ensures { W.value result ≡ cond (lt (W.value r) +0) (add W.format (W.value r) (W.value m)) (W.value r) }
+    ensures { W.float result ≡ cond (lt (W.float r) +0) (add W.format (W.float r) (W.float m)) (W.float r) }
 {
-    if r.is_less(W::zero()) { r.plus(m) } else { r }
+    if r.is_less(W::zero()) { r + m } else { r }
 }
 
 // The remainder, plus the modulus where negative; -0 stays. Between m and -m the remainder is x.
 pub fn rem_euclid<W: Width>(x: W, m: W) -> W
-    ensures { W.value result ≡ rem_euclid_of W.format (W.value x) (W.value m) }
+    ensures { W.float result ≡ rem_euclid_of W.format (W.float x) (W.float m) }
 {
-    if x.is_less(m) & m.negated().is_less(x) {
+    if x.is_less(m) & (-m).is_less(x) {
         return raised(x, m);
     }
     raised(rem(x, m), m)

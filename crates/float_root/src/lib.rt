@@ -43,7 +43,7 @@ fn root_parts(m: u64, j: u32, scale: u32, dropped: u32) -> Parts
 // The root of m * 2^j smallest values.
 fn root_of<W: Width>(m: u64, j: u32) -> W
     requires { (0 < m) × (m < 2 ^ 63) × (j < 4096) }
-    ensures { W.value result ≡ round_root W.format (m * 2 ^ j * 2 ^ low W.format) }
+    ensures { W.float result ≡ round_root W.format (m * 2 ^ j * 2 ^ low W.format) }
 {
     let (digits, lowest) = (W::DIGITS, W::LOWEST);
     // Origin: `root_parts` finds 55 digits, and puts 46 zeros behind its number
@@ -53,11 +53,9 @@ fn root_of<W: Width>(m: u64, j: u32) -> W
 
 // The square root of any x, to the nearest value, by whole numbers alone.
 fn sqrt_by_digits<W: Width>(x: W) -> W
-    ensures { W.value result ≡ sqrt_of W.format (W.value x) }
+    ensures { W.float result ≡ sqrt_of W.format (W.float x) }
 {
-    let Some(b) = x.pattern() else {
-        return x.plus(x)
-    };
+    let Some(b) = x.pattern() else { return x + x };
     let (sign, weight, highest) = (W::SIGN, W::FIELD, W::HIGHEST);
     let e = b % sign / weight;
     let t = b % weight;
@@ -65,7 +63,7 @@ fn sqrt_by_digits<W: Width>(x: W) -> W
         return x; // each zero is its own root
     }
     if b >= sign {
-        return W::zero().over(W::zero());
+        return W::zero() / W::zero();
     }
     if e == highest {
         return x;
@@ -80,7 +78,7 @@ fn sqrt_by_digits<W: Width>(x: W) -> W
 // The root of x by a guess at it, whose digits are tested in whole numbers. Where they are not the root's, and where x has no such digits (NaNs, zeros, infinities, values that are subnormal or below zero), the root is found digit by digit.
 // Nothing is asked of the guess, and nothing rests on it: a bad one costs time and no bit.
 fn root_near<W: Width>(x: W, guess: W) -> W
-    ensures { W.value result ≡ sqrt_of W.format (W.value x) }
+    ensures { W.float result ≡ sqrt_of W.format (W.float x) }
 {
     let Some(b) = x.pattern() else {
         return sqrt_by_digits(x)

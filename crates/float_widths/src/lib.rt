@@ -55,13 +55,13 @@ fn sign_part<W: Width>(neg: bool) -> u64
 // The pattern is a sum: the leading digit of q adds one to the exponent's field, and a q with one digit more, 2^24 or 2^53, carries into it.
 pub fn assemble<W: Width>(neg: bool, q: u64, k: u32) -> W
     requires { (q ≤ 2 ^ prec W.format) × (0 < k → 2 ^ (prec W.format - 1) ≤ q) }
-    ensures { W.value result ≡ units W.format neg q k }
+    ensures { W.float result ≡ units W.format neg q k }
 {
     let (weight, highest) = (W::FIELD, W::HIGHEST);
     // Origin: 2 * emax is one less than the highest field
     if k as u64 >= highest - 1 {
         return if neg {
-            W::infinity().negated()
+            W::neg_infinity()
         } else {
             W::infinity()
         };

@@ -1,5 +1,5 @@
 -- `float_root::sqrt_by_digits` meets its contract: a value's fields give its size in smallest values, and `root_of` rounds its root. Assumes nothing.
-use Rattle.std.proofs.Common.{ap₂, ◌∙◌}
+use Rattle.std.proofs.Common.{ap, ap₂, ◌∙◌}
 use lib.Ieee.{div}
 use Rattle.float_order.proofs.Order.{is_nan-is}
 use Rattle.float_order.proofs.Weights.{weights_read}
@@ -8,7 +8,7 @@ use Rattle.float_root.proofs.Fields.{zero_root, negative_root, infinite_root, lo
 use Rattle.float_root.proofs.sqrt_by_digits.Goals as goal
 
 pub returns-in_default : goal.returns-in_default
-returns-in_default g c = c.plus.ensures ∙ sqrt_nan _ _ (is_nan-is _ c.in_default.ensures)
+returns-in_default g c = g.met.W.Float.float_add_law _ _ _ c.add.ensures ∙ sqrt_nan _ _ (is_nan-is _ c.in_default.ensures)
 
 pub returns-then-b-sign-eq0 : goal.returns-then-b-sign-eq0
 returns-then-b-sign-eq0 g c =
@@ -19,7 +19,9 @@ pub returns-then-b-sign : goal.returns-then-b-sign
 unfolding div
 returns-then-b-sign g c =
     let w = weights_read g.met.W.Width.weights c.SIGN-sign.ensures c.FIELD-weight.ensures c.HIGHEST-highest.ensures in
-    c.over.ensures ∙ ap₂ (div g.W.Width.format) c.zero.ensures c.zero-then-b-sign.ensures ∙ negative_root w c.in-Some.ensures c.if-b-sign.true c.if-b-sign-eq0.false
+    let zero = g.met.W.Float.float_zero_law in
+    let v = g.W.Float.float in
+    g.met.W.Float.float_div_law _ _ _ c.div.ensures ∙ ap₂ (div g.W.Float.format) (ap v c.zero.ensures ∙ zero) (ap v c.zero-then-b-sign.ensures ∙ zero) ∙ negative_root w c.in-Some.ensures c.if-b-sign.true c.if-b-sign-eq0.false
 
 pub returns-then-e-highest : goal.returns-then-e-highest
 returns-then-e-highest g c =
