@@ -5,8 +5,8 @@ ghost use Rattle.std.specs.Prelude.{◌≡◌, ◌≤◌, length};
 ghost use Rattle.angle_sort.specs.Order.{sorted_of};
 ghost use Rattle.angle_sort.specs.Inner.Front.{place_of};
 
-// An angle and the number of what stands at it.
-#[derive(Clone, Copy)]
+// An angle and the number of what stands at it. It has a default for the unused places of a vector of fixed room.
+#[derive(Clone, Copy, Default)]
 pub struct Spot {
     pub angle: f64,
     pub number: usize,

@@ -1,10 +1,13 @@
 -- Laws of a triple that is skipped before its normal is scaled: where a point stands well over its plane, and another well under it, they do so by the scaled normal too (crates/layout_margin). Assumes nothing.
-use Prim.Native.Nat.{ℕ, ◌*◌, ◌^◌, ◌≤◌, ◌<◌}
+use Prim.Native.Nat.{ℕ, suc, ◌+◌, ◌*◌, ◌^◌, ◌≤◌, ◌<◌}
 use mathlib.Core.Path.{◌≡◌, refl, sym, ap, ◌∙◌, subst}
 use mathlib.Core.Bool.{Bool, true, false, true≢false, ◌&&◌, ◌||◌, not}
 use borrow.Author.Tests.{not-true, ne_eqb}
 use lib.Dec.{T, lit≤, lit<}
-use lib.ListN.{length}
+use lib.ListN.{length, get_or, take, length-take, get_or-append}
+use mathlib.Core.List.{[], ◌∷◌, ◌++◌}
+use native.Mathlib.Omega.{arith}
+use Rattle.std.proofs.lemmas.List.{get_or-take, get_or_at, length_push}
 use lib.Ieee.{Float, binary64, neg, lt, of_bits}
 use Rattle.lists.proofs.Tests.{and_left, and_right}
 use Rattle.vector.specs.Vector.{Vector, Points, dot_of, over_of, length_of}
@@ -80,8 +83,47 @@ module _ (pts : Points) where
     abbrev pub Under : Type 0
     Under = (p : ℕ) × (p < length pts) × (lt (height_of f (point pts p)) (neg margin) ≡ true)
 
+  -- each point of l is one of the points
+  abbrev pub Each : Points → Type 0
+  Each l = (k : ℕ) → k < length l → (p : ℕ) × (p < length pts) × (get_or l k [] ≡ point pts p)
+
+  pub each_all : {l : Points} → l ≡ pts → Each l
+  each_all e k h = (k, subst (λ (q : Points). k < length q) e h, ap (λ (q : Points). point q k) e)
+
+  pub each_take : (n : ℕ) {l : Points} → l ≡ take n pts → Each l
+  each_take n {l} e k h =
+      let b : k < length (take n pts) = subst (λ (q : Points). k < length q) e h in
+      let t = length-take n pts in
+      (k, omega (arith, b, t), ap (λ (q : Points). point q k) e ∙ get_or-take n pts k [] (omega (arith, b, t)))
+
+  -- the points that are left once the first of l is taken, or the last
+  module _ {l : Points} (r : Points) (x : Vector) (each : Each l) where
+    pub each_tail : l ≡ x ∷ r → Each r
+    each_tail e k h =
+        let t : length l ≡ length (x ∷ r) = ap length e in
+        let f = each (suc k) (omega (arith, h, t)) in
+        (f.0, f.1, sym (ap (λ (q : Points). point q (suc k)) e) ∙ f.2)
+
+    pub each_front : l ≡ r ++ (x ∷ []) → Each r
+    each_front e k h =
+        let t : length l ≡ length r + 1 = ap length e ∙ length_push r x in
+        let f = each k (omega (arith, h, t)) in
+        (f.0, f.1, sym (get_or-append r (x ∷ []) [] k h) ∙ sym (ap (λ (q : Points). point q k) e) ∙ f.2)
+
+    -- what is taken is one of the points
+    pub found_first : l ≡ x ∷ r → (p : ℕ) × (p < length pts) × (x ≡ point pts p)
+    found_first e =
+        let t : length l ≡ length (x ∷ r) = ap length e in
+        let f = each 0 (omega (arith, t)) in
+        (f.0, f.1, sym (ap (λ (q : Points). point q 0) e) ∙ f.2)
+
+    pub found_last : l ≡ r ++ (x ∷ []) → (p : ℕ) × (p < length pts) × (x ≡ point pts p)
+    found_last e =
+        let t : length l ≡ length r + 1 = ap length e ∙ length_push r x in
+        let f = each (length r) (omega (arith, t)) in
+        (f.0, f.1, sym (get_or_at r x [] [] (length r) refl) ∙ sym (ap (λ (q : Points). point q (length r)) e) ∙ f.2)
+
   near_three : NearIn pts → (p : ℕ) → p < length pts → Three (2 * L) (point pts p)
-  unfolding NearIn
   near_three c p h = let g = c p h in record { first = at g.first; second = at g.second; third = at g.third }
     where
       at : {v : Float} → Near v → Mag binary64 v (2 * L)

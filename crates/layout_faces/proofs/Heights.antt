@@ -1,16 +1,17 @@
 -- Laws of the sides of a plane without a point, looked for from the last point on. A test of every element does not depend on the order in which they are tested. Assumes nothing.
 use Prim.Native.Nat.{ℕ, ◌+◌, ◌≤◌, ◌<◌, zero-le}
-use mathlib.Core.Path.{◌≡◌, refl, sym, ap, ◌∙◌}
+use mathlib.Core.Path.{◌≡◌, refl, sym, ap, subst, ◌∙◌}
 use mathlib.Core.Bool.{Bool, true, false, ◌&&◌, ◌||◌, not, cond}
-use mathlib.Core.List.{List, ◌∷◌, ◌++◌}
+use mathlib.Core.List.{List, [], ◌∷◌, ◌++◌, append_assoc, append-nil}
 use native.Mathlib.Omega.{arith}
-use lib.ListN.{length}
+use lib.ListN.{length, length-append}
 use lib.Ieee.{lt, neg}
 use Rattle.lists.specs.Lists.{range, between, filter, every}
 use Rattle.lists.proofs.Ranges.{between_none, between_cons, between_append, range_between}
 use Rattle.lists.proofs.Collect.{filter_append}
 use Rattle.lists.proofs.Tests.{and_false, every_append}
-use Rattle.vector.specs.Vector.{Points}
+use Rattle.std.proofs.lemmas.List.{get_or_at, length_push}
+use Rattle.vector.specs.Vector.{Vector, Points}
 use Rattle.layout_faces.specs.Faces.{Plane, eps, point, others, height, all_below, all_above, is_other}
 use Rattle.layout_faces.specs.Inner.Steps.{beside_of, sides_of}
 use Rattle.layout_faces.specs.declared.Sides.{Sides}
@@ -86,3 +87,57 @@ module _ (pts : Points) (i j k : ℕ) (f : Plane) where
   pub sides_all : sides_from 0 ≡ sides_of pts f (others (length pts) i j k)
   unfolding others
   sides_all = rw (range_between (length pts))
+
+  -- the points that a walk from the last one has left are the first ones, and s is the sides that those behind them leave
+  pub record Left (s : Sides) (count : ℕ) (rest : Points) : Type 0 where
+    pub zero : count ≡ 0
+    pub behind : Points
+    pub whole : rest ++ behind ≡ pts
+    pub sides : s ≡ sides_from (length rest)
+
+  pub left_first : {n : ℕ} {rest : Points} → n ≡ 0 → rest ≡ pts → Left (record { below = true; above = true }) n rest
+  left_first z e = record { zero = z; behind = []; whole = append-nil _ ∙ e; sides = sides_none _ (ap length e) }
+
+  pub left_early : {s : Sides} {n : ℕ} {rest : Points} → Left s n rest → s.below || s.above ≡ false → s ≡ sides_of pts f (others (length pts) i j k)
+  left_early {s} {n} {rest} l g = sides_early (length rest) (subst (λ (q : Points). length rest ≤ length q) l.whole (omega (arith, length-append rest l.behind))) l.sides g
+
+  pub left_all : {s : Sides} {n : ℕ} {rest : Points} → Left s n rest → length rest ≡ 0 → s ≡ sides_of pts f (others (length pts) i j k)
+  left_all l e = l.sides ∙ ap sides_from e ∙ sides_all
+
+  module _ {s : Sides} {n m p : ℕ} {all : Points} (rest : Points) (x : Vector) (l : Left s n all) (e : all ≡ rest ++ (x ∷ [])) (c : m ≡ n) (at : p ≡ n + length rest) where
+    here : length rest ≡ p
+    here = omega (arith, at, l.zero)
+
+    more : rest ++ (x ∷ l.behind) ≡ pts
+    more = sym (append_assoc rest (x ∷ []) l.behind) ∙ ap (λ (q : Points). q ++ l.behind) (sym e) ∙ l.whole
+
+    inside : length rest < length pts
+    inside = subst (λ (q : Points). length rest < length q) more (omega (arith, length-append rest (x ∷ l.behind)))
+
+    longer : length all ≡ length rest + 1
+    longer = ap length e ∙ length_push rest x
+
+    found : point pts (length rest) ≡ x
+    found = ap (λ (q : Points). point q (length rest)) (sym more) ∙ get_or_at rest x l.behind [] (length rest) refl
+
+    -- a corner of the triple is passed over
+    pub left_own : is_other i j k p ≡ false → Left s m rest
+    left_own o = record {
+      zero = c ∙ l.zero;
+      behind = x ∷ l.behind;
+      whole = more;
+      sides = l.sides ∙ ap sides_from longer ∙ sides_own (length rest) inside (ap (is_other i j k) here ∙ o);
+    }
+
+    -- another point is looked at
+    pub left_more : is_other i j k p ≡ true → {t : Sides} → t ≡ beside_of f x s → Left t m rest
+    left_more o b = record {
+      zero = c ∙ l.zero;
+      behind = x ∷ l.behind;
+      whole = more;
+      sides =
+          b
+          ∙ ap (λ (q : Vector). beside_of f q s) (sym found)
+          ∙ ap (beside_of f (point pts (length rest))) (l.sides ∙ ap sides_from longer)
+          ∙ sides_more (length rest) inside (ap (is_other i j k) here ∙ o);
+    }

@@ -30,6 +30,16 @@ pub struct Triple {
     pub k: usize,
 }
 
+// Three of the points of a hull, which are tested as the corners of a face. `near` tells of all the points, once for all triples of them, that they are near.
+#[derive(Clone, Copy)]
+pub struct Corners<'a> {
+    pub pts: &'a [[f64; 3]],
+    pub near: bool,
+    pub t: Triple,
+    ghost within: { Within (length pts.now) t },
+    ghost told: { near ≡ true → NearIn pts.now },
+}
+
 // A plane: its normal, and its distance from the origin along that.
 #[derive(Clone, Copy)]
 pub struct Plane {
@@ -81,27 +91,6 @@ fn beside(plane: Plane, p: [f64; 3], s: Sides) -> Sides
     }
 }
 
-// On which sides of the plane none of the points but the triple's own stands: from the last point on, until both sides have one.
-fn all_sides(pts: &[[f64; 3]], t: Triple, plane: Plane) -> Sides
-    ensures { result ≡ sides_of pts.now plane (others (length pts.now) t.i t.j t.k) }
-{
-    let mut s = Sides {
-        below: true,
-        above: true,
-    };
-    // the number is used too, not only as an index
-    for p in (0..pts.len()).rev() {
-        if !is_other(t, p) {
-            continue;
-        }
-        s = beside(plane, pts[p], s);
-        if !(s.below | s.above) {
-            return s;
-        }
-    }
-    s
-}
-
 // The normal of the plane through three points, before it is scaled.
 #[tactic(auto, unfolding(crate::specs::Faces::raw_normal))]
 fn raw_normal(a: [f64; 3], b: [f64; 3], c: [f64; 3]) -> [f64; 3]
@@ -146,7 +135,6 @@ fn is_near_point(p: [f64; 3]) -> bool
 }
 
 // Whether the points are near: their coordinates are finite and at most 2 in size. It promises what a true says and nothing of a false, on which no result rests: `face_test` answers the same with either, and takes longer without it.
-#[tactic(auto, unfolding(crate::specs::Inner::Margin::NearIn))]
 pub fn all_near(pts: &[[f64; 3]]) -> bool
     ensures { result ≡ true → NearIn pts.now }
 {
@@ -162,58 +150,78 @@ fn is_level(plane: Plane, p: [f64; 3]) -> bool
     !(w > MARGIN) & !(w < -MARGIN)
 }
 
-// Whether one of the points stands well over the plane of the triple and one well under it, by the normal before it is scaled, and neither is the triple's own. Then near points need no root: the triple is no face.
-fn well_apart(pts: &[[f64; 3]], t: Triple, raw: [f64; 3]) -> bool
-    requires within { Within (length pts.now) t }
-    requires raw { raw ≡ raw_normal (point pts.now t.i) (point pts.now t.j) (point pts.now t.k) }
-    ensures { result ≡ true → NearIn pts.now → face_of pts.now t.i t.j t.k ≡ Skip }
-{
-    let a = pts[t.i];
-    let plane = Plane {
-        nrm: raw,
-        d: vector::dot(raw, a),
-    };
-    let n = pts.len();
-    let mut over = false;
-    let mut under = false;
-    // half of the points, the greater one, each with its fellow from the other end
-    for p in 0..n - n / 2 {
-        let v = height(plane, pts[p]);
-        let w = height(plane, pts[n - 1 - p]);
-        over = over | (v > MARGIN) | (w > MARGIN);
-        under = under | (v < -MARGIN) | (w < -MARGIN);
-        if over & under {
-            return is_level(plane, a) & is_level(plane, pts[t.j]) & is_level(plane, pts[t.k]);
+impl<'a> Corners<'a> {
+    // On which sides of the plane none of the points but the triple's own stands: from the last point on, until both sides have one.
+    fn sides(self, plane: Plane) -> Sides
+        ensures { result ≡ sides_of self.entry.pts.now plane (others (length self.entry.pts.now) self.entry.t.i self.entry.t.j self.entry.t.k) }
+    {
+        let mut s = Sides {
+            below: true,
+            above: true,
+        };
+        for (p, at) in self.pts.iter().enumerate().rev() {
+            if !is_other(self.t, p) {
+                continue;
+            }
+            s = beside(plane, *at, s);
+            if !(s.below | s.above) {
+                return s;
+            }
         }
+        s
     }
-    false
-}
 
-// The tests of a triple of the points, up to that of its plane's distance; `near` tells that the points are.
-// It is told once for all triples of the points; a struct that holds it with the points would be asked by this function alone.
-pub fn face_test(pts: &[[f64; 3]], near: bool, t: Triple) -> Face
-    requires within { Within (length pts.now) t }
-    requires near { near ≡ true → NearIn pts.now }
-    ensures { result ≡ face_of pts.now t.i t.j t.k }
-{
-    let a = pts[t.i];
-    let raw = raw_normal(a, pts[t.j], pts[t.k]);
-    if near & well_apart(pts, t, raw) {
-        return Face::Skip;
+    // Whether one of the points stands well over the plane of the triple and one well under it, by the normal before it is scaled, and neither is the triple's own. Then near points need no root: the triple is no face.
+    fn well_apart(self, raw: [f64; 3]) -> bool
+        requires { raw ≡ raw_normal (point self.pts.now self.t.i) (point self.pts.now self.t.j) (point self.pts.now self.t.k) }
+        ensures { result ≡ true → NearIn self.entry.pts.now → face_of self.entry.pts.now self.entry.t.i self.entry.t.j self.entry.t.k ≡ Skip }
+    {
+        let pts = self.pts;
+        let t = self.t;
+        let a = pts[t.i];
+        let plane = Plane {
+            nrm: raw,
+            d: vector::dot(raw, a),
+        };
+        let n = pts.len();
+        let mut over = false;
+        let mut under = false;
+        // half of the points, the greater one, each with its fellow from the other end
+        for (p, q) in pts[..n - n / 2].iter().zip(pts.iter().rev()) {
+            let v = height(plane, *p);
+            let w = height(plane, *q);
+            over = over | (v > MARGIN) | (w > MARGIN);
+            under = under | (v < -MARGIN) | (w < -MARGIN);
+            if over & under {
+                return is_level(plane, a) & is_level(plane, pts[t.j]) & is_level(plane, pts[t.k]);
+            }
+        }
+        false
     }
-    let nl = vector::length64(raw);
-    if nl < LEAST_NORMAL {
-        return Face::Skip;
+
+    // The tests of a triple of the points, up to that of its plane's distance.
+    pub fn face_test(self) -> Face
+        ensures { result ≡ face_of self.entry.pts.now self.entry.t.i self.entry.t.j self.entry.t.k }
+    {
+        let a = self.pts[self.t.i];
+        let raw = raw_normal(a, self.pts[self.t.j], self.pts[self.t.k]);
+        if self.near & self.well_apart(raw) {
+            return Face::Skip;
+        }
+        let nl = vector::length64(raw);
+        if nl < LEAST_NORMAL {
+            return Face::Skip;
+        }
+        let nrm = vector::over(raw, nl);
+        let d = vector::dot(nrm, a);
+        let plane = Plane { nrm, d };
+        let s = self.sides(plane);
+        if s.below {
+            return outward(plane);
+        }
+        if s.above {
+            return outward(turned(plane));
+        }
+        Face::Skip
     }
-    let nrm = vector::over(raw, nl);
-    let d = vector::dot(nrm, a);
-    let plane = Plane { nrm, d };
-    let s = all_sides(pts, t, plane);
-    if s.below {
-        return outward(plane);
-    }
-    if s.above {
-        return outward(turned(plane));
-    }
-    Face::Skip
 }

@@ -1,9 +1,10 @@
 -- Laws of the points in one plane: those that a loop passes, and the fan of their angles. Assumes nothing.
-use Rattle.std.proofs.Common.{◌≡◌, ℕ, zero, suc, ◌+◌, ◌-◌, ◌≤◌, ◌<◌, Bool, true, false, cond, ◌&&◌, List, [], ◌∷◌, ◌++◌, map, length, get_or, take, set, refl, sym, ap, ◌∙◌, add-one, arith, length-append, lt-ltb, ltb-true, eq-eqb, ltb, eqb}
+use Rattle.std.proofs.Common.{◌≡◌, ℕ, zero, suc, ◌+◌, ◌-◌, ◌≤◌, ◌<◌, Bool, true, false, cond, ◌&&◌, List, [], ◌∷◌, ◌++◌, map, length, get_or, take, refl, sym, ap, ◌∙◌, add-one, arith, length-append, lt-ltb, ltb-true, eq-eqb, ltb, eqb}
 use lib.Ieee.{Float, neg, le}
-use lib.Seq.{take-suc-set}
+use lib.Seq.{take-suc}
+use mathlib.Core.List.{append_assoc, map-append}
 use Rattle.lists.specs.Lists.{from, range, between, filter, every}
-use Rattle.lists.proofs.Ranges.{range_none, range_snoc, range_between, between_cons, between_append, length_between}
+use Rattle.lists.proofs.Ranges.{range_snoc, range_between, between_cons, between_append, length_between}
 use Rattle.lists.proofs.Tests.{or_true, every_at, empty_length}
 use Rattle.lists.proofs.Collect.{filter_append, filter_yes, filter_no, length_filter}
 use Rattle.vector.specs.Vector.{Vector, Points}
@@ -13,26 +14,14 @@ use Rattle.layout_fan.specs.declared.Basis.{Basis}
 use Rattle.layout_fan.specs.Fan.{coplanar, adjacent, in_fan, fan, angle_in}
 use Rattle.layout_fan.specs.Inner.Steps.{is_coplanar, basis_of, angle_by, spot_of, fan_test}
 
--- ---- the numbers below p that pass a test, in the first places of an array
+-- ---- the numbers below p that pass a test, once p is looked at too
 
-module _ (f : ℕ → Bool) where
-  pub record Found (p : ℕ) (to : List ℕ) (count : ℕ) : Type 0 where
-    pub are : take count to ≡ filter f (range p)
-    pub few : count ≤ p
+module _ (f : ℕ → Bool) (p : ℕ) {l : List ℕ} (g : l ≡ filter f (range p)) {b : Bool} (e : b ≡ f p) where
+  pub found_no : b ≡ false → l ≡ filter f (range (p + 1))
+  found_no n = g ∙ sym (ap (filter f) (range_snoc p) ∙ filter_no f (range p) p (sym e ∙ n))
 
-  pub found_none : (to : List ℕ) → Found 0 to 0
-  unfolding filter
-  found_none to = record { are = rw range_none refl; few = omega arith }
-
-  module _ (p : ℕ) {to : List ℕ} {count : ℕ} (g : Found p to count) {b : Bool} (e : b ≡ f p) where
-    pub found_no : b ≡ false → Found (p + 1) to count
-    found_no n = record { are = g.are ∙ sym (ap (filter f) (range_snoc p) ∙ filter_no f (range p) p (sym e ∙ n)); few = omega (arith, g.few) }
-
-    pub found_yes : count < length to → b ≡ true → Found (p + 1) (set to count p) (count + 1)
-    found_yes h y = record {
-      are = rw add-one (take-suc-set to count p h) ∙ ap (λ (l : List ℕ). l ++ p ∷ []) g.are ∙ sym (ap (filter f) (range_snoc p) ∙ filter_yes f (range p) p (sym e ∙ y));
-      few = omega (arith, g.few);
-    }
+  pub found_yes : b ≡ true → l ++ p ∷ [] ≡ filter f (range (p + 1))
+  found_yes y = ap (λ (l : List ℕ). l ++ p ∷ []) g ∙ sym (ap (filter f) (range_snoc p) ∙ filter_yes f (range p) p (sym e ∙ y))
 
 -- ---- the coplanar points
 
@@ -135,6 +124,13 @@ below_coplanar pts i j k f = rw (← coplanar_range pts i j k f) (below_range (c
 
 pub below_at : (n : ℕ) (l : List ℕ) (q : ℕ) → every (λ p. ltb p n) l ≡ true → q < length l → get_or l q 0 < n
 below_at n l q e h = ltb-true (get_or l q 0) n (every_at (λ p. ltb p n) l q 0 e h)
+
+-- a number more of those that stand behind others
+pub map_more : {B : Type 0} (f : ℕ → B) (before l : List ℕ) (q : ℕ) → q < length l → map f (before ++ take (q + 1) l) ≡ map f (before ++ take q l) ++ f (get_or l q 0) ∷ []
+map_more f before l q h =
+    rw add-one (ap (λ (r : List ℕ). map f (before ++ r)) (take-suc l q 0 h))
+    ∙ ap (map f) (sym (append_assoc before (take q l) (get_or l q 0 ∷ [])))
+    ∙ map-append f (before ++ take q l) (get_or l q 0 ∷ [])
 
 -- ---- the fan by what the code computed: the basis and the angle of point i
 

@@ -5,12 +5,12 @@
 ghost use Rattle.std.specs.Prelude.{◌≡◌, true, ◌∷◌, ◌+◌, ◌≤◌, ◌<◌, ltb, map, take, length};
 ghost use Rattle.lists.specs.Lists.{every};
 ghost use Rattle.layout_faces.specs.Faces.{others, point};
-ghost use Rattle.layout_faces.specs.Inner.Steps.{Within};
 ghost use Rattle.layout_fan.specs.Fan.{helper, angle_in, coplanar, fan, adjacent};
 ghost use Rattle.layout_fan.specs.Inner.Steps.{is_coplanar, basis_of, angle_by, spot_of, pos_of, fan_test};
 
 use angle_sort::Spot;
-use layout_faces::{Plane, Triple};
+use arrayvec::ArrayVec;
+use layout_faces::{Corners, Plane, Triple};
 
 // 3feccccccccccccd. Origin: vbap.rs line 325; from there on a normal counts as along the first axis.
 const STEEP: f64 = 0.9;
@@ -30,20 +30,19 @@ fn is_coplanar(t: Triple, plane: Plane, p: usize, at: [f64; 3]) -> bool
     layout_faces::is_other(t, p) & (layout_faces::height(plane, at) >= -layout_faces::EPS)
 }
 
-// The numbers of those points that are coplanar with the triple, in the room that is lent for them.
-fn coplanar<'a>(pts: &[[f64; 3]], t: Triple, plane: Plane, room: &'a mut [usize; 54]) -> &'a [usize]
-    requires { length pts.now ≤ 54 }
-    ensures { result.now ≡ coplanar pts.now plane (others (length pts.now) t.i t.j t.k) }
+// The numbers of those points that are coplanar with the triple.
+fn coplanar(c: Corners, plane: Plane) -> ArrayVec<usize, 54>
+    requires { length c.pts.now ≤ 54 }
+    ensures { result.items ≡ coplanar c.entry.pts.now plane (others (length c.entry.pts.now) c.entry.t.i c.entry.t.j c.entry.t.k) }
 {
-    let mut count = 0;
-    for (p, at) in pts.iter().enumerate() {
-        if !is_coplanar(t, plane, p, *at) {
+    let mut numbers = ArrayVec::new();
+    for (p, at) in c.pts.iter().enumerate() {
+        if !is_coplanar(c.t, plane, p, *at) {
             continue;
         }
-        room[count] = p;
-        count += 1;
+        numbers.push(p);
     }
-    &room[..count]
+    numbers
 }
 
 // Whether i is below the numbers.
@@ -94,24 +93,19 @@ fn spot(basis: Basis, first: f64, p: usize, at: [f64; 3]) -> Spot
     }
 }
 
-// The triple's points j and k and those numbered, with their angles from `first` on, in the array's first places.
-fn spots(pts: &[[f64; 3]], basis: Basis, first: f64, t: Triple, numbers: &[usize]) -> [Spot; 53]
+// The triple's points j and k and those numbered, with their angles from `first` on.
+fn spots(c: Corners, basis: Basis, first: f64, numbers: &[usize]) -> ArrayVec<Spot, 53>
     requires few { length numbers.now ≤ 51 }
-    requires triple { Within (length pts.now) t }
-    requires within { every (λ p. ltb p (length pts.now)) numbers.now ≡ true }
-    ensures { take (length numbers.now + 2) result ≡ map (λ p. spot_of basis first p (point pts.now p)) (t.j ∷ t.k ∷ numbers.now) }
+    requires within { every (λ p. ltb p (length c.pts.now)) numbers.now ≡ true }
+    ensures { result.items ≡ map (λ p. spot_of basis first p (point c.entry.pts.now p)) (c.entry.t.j ∷ c.entry.t.k ∷ numbers.now) }
 {
-    let mut a = [Spot {
-        angle: 0.0,
-        number: 0,
-    }; 53];
-    a[0] = spot(basis, first, t.j, pts[t.j]);
-    a[1] = spot(basis, first, t.k, pts[t.k]);
-    for (q, p) in numbers.iter().enumerate() {
-        let s = spot(basis, first, *p, pts[*p]);
-        a[q + 2] = s;
+    let mut ring = ArrayVec::new();
+    ring.push(spot(basis, first, c.t.j, c.pts[c.t.j]));
+    ring.push(spot(basis, first, c.t.k, c.pts[c.t.k]));
+    for p in numbers {
+        ring.push(spot(basis, first, *p, c.pts[*p]));
     }
-    a
+    ring
 }
 
 // How many spots stand before that of point p: the length where there is none, as the definition's `position` has it. The points that are asked for are always among the spots, so an Option would be taken apart for a None that can't occur.
@@ -135,32 +129,30 @@ fn is_adjacent(ring: &[Spot], j: usize, k: usize) -> bool
 }
 
 // Whether j and k are next to each other among the points of a plane, in the order of their angles from i.
-fn next_in_fan(pts: &[[f64; 3]], nrm: [f64; 3], t: Triple, numbers: &[usize]) -> bool
+fn next_in_fan(c: Corners, nrm: [f64; 3], numbers: &[usize]) -> bool
     requires few { length numbers.now ≤ 51 }
-    requires triple { Within (length pts.now) t }
-    requires within { every (λ p. ltb p (length pts.now)) numbers.now ≡ true }
-    ensures { result ≡ adjacent t.j t.k (fan pts.now nrm t.i (t.j ∷ t.k ∷ numbers.now)) }
+    requires within { every (λ p. ltb p (length c.pts.now)) numbers.now ≡ true }
+    ensures { result ≡ adjacent c.entry.t.j c.entry.t.k (fan c.entry.pts.now nrm c.entry.t.i (c.entry.t.j ∷ c.entry.t.k ∷ numbers.now)) }
 {
     let basis = basis_in(nrm);
-    let first = angle(basis, pts[t.i]);
-    let mut a = spots(pts, basis, first, t, numbers);
-    let ring = &mut a[..numbers.len() + 2];
-    angle_sort::sort(ring);
-    is_adjacent(ring, t.j, t.k)
+    let first = angle(basis, c.pts[c.t.i]);
+    let mut ring = spots(c, basis, first, numbers);
+    angle_sort::sort(ring.as_mut_slice());
+    is_adjacent(ring.as_slice(), c.t.j, c.t.k)
 }
 
 // Coplanar points make one fan, from the lowest of them: whether the triple is a part of it.
-pub fn in_fan(pts: &[[f64; 3]], t: Triple, plane: Plane) -> bool
-    requires { (length pts.now ≤ 54) × (t.i < t.j) × (t.j < t.k) × (t.k < length pts.now) }
-    ensures { result ≡ fan_test pts.now t.i t.j t.k plane }
+pub fn in_fan(c: Corners, plane: Plane) -> bool
+    requires { (length c.pts.now ≤ 54) × (c.t.i < c.t.j) × (c.t.j < c.t.k) }
+    ensures { result ≡ fan_test c.entry.pts.now c.entry.t.i c.entry.t.j c.entry.t.k plane }
 {
-    let mut room = [0usize; 54];
-    let numbers = coplanar(pts, t, plane, &mut room);
+    let found = coplanar(c, plane);
+    let numbers = found.as_slice();
     if numbers.is_empty() {
         return true;
     }
-    if !is_lowest(t.i, numbers) {
+    if !is_lowest(c.t.i, numbers) {
         return false;
     }
-    next_in_fan(pts, plane.nrm, t, numbers)
+    next_in_fan(c, plane.nrm, numbers)
 }

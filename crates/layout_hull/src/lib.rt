@@ -9,7 +9,7 @@ ghost use Rattle.layout_hull.specs.Triplets.{inverse_by};
 ghost use Rattle.layout_hull.specs.Inner.Steps.{row_of, inverses_with};
 ghost use Rattle.layout_hull.specs.Inner.Flat.{hull_of};
 
-use layout_faces::{Face, Triple};
+use layout_faces::{Corners, Face, Triple};
 use vector::MOST_TRIPLETS;
 
 // Origin: vbap.rs line 345; guards the division by a triplet's determinant.
@@ -25,7 +25,7 @@ pub struct Hull {
     pub enclosed: bool,
 }
 
-// The determinant of the matrix of three points.
+// The determinant of the matrix of three points. `inverse` has the three too; a struct of them would be made for this one pair of calls, and the definitions take three.
 #[tactic(auto, using(vector::proofs::Rows::determinant_dot))]
 fn determinant(a: [f64; 3], b: [f64; 3], c: [f64; 3]) -> f64
     ensures { result ≡ determinant_of a b c }
@@ -95,7 +95,8 @@ pub fn hull_triplets(pts: &[[f64; 3]]) -> Hull
         'second: for j in i + 1..n {
             'third: for k in j + 1..n {
                 let t = Triple { i, j, k };
-                match layout_faces::face_test(pts, near, t) {
+                let corners = Corners { pts, near, t };
+                match corners.face_test() {
                     Face::Skip => {
                         continue 'third;
                     }
@@ -104,7 +105,7 @@ pub fn hull_triplets(pts: &[[f64; 3]]) -> Hull
                         continue 'third;
                     }
                     Face::Outward(plane) => {
-                        if !layout_fan::in_fan(pts, t, plane) {
+                        if !layout_fan::in_fan(corners, plane) {
                             continue 'third;
                         }
                     }

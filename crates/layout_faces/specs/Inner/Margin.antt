@@ -26,7 +26,7 @@ pub record NearPoint (v : Vector) : Type 0 where
   pub third : Near (z v)
 
 -- all points are near
-unfoldable pub NearIn : Points → Type 0
+abbrev pub NearIn : Points → Type 0
 NearIn pts = (p : ℕ) → p < length pts → NearPoint (point pts p)
 
 -- a point stands neither well over the plane nor well under it
