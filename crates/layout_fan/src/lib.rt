@@ -2,7 +2,7 @@
 // Lengths of arrays: 40 directions (document 01, refusal 2) and 14 imaginary points (vbap.rs line 60) are 54 points. A fan has all of them but its lowest, 53; with a triple in one plane are all but its own three, 51.
 #![tactic(auto)]
 
-ghost use Rattle.std.specs.Prelude.{◌≡◌, true, ◌∷◌, ◌+◌, ◌≤◌, ◌<◌, ltb, map, take, length};
+ghost use Rattle.std.specs.Prelude.{◌≡◌, true, ◌∷◌, ◌≤◌, ◌<◌, ltb, map, length};
 ghost use Rattle.lists.specs.Lists.{every};
 ghost use Rattle.layout_faces.specs.Faces.{others, point};
 ghost use Rattle.layout_fan.specs.Fan.{helper, angle_in, coplanar, fan, adjacent};
