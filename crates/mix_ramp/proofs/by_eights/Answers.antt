@@ -1,4 +1,4 @@
-use Prim.Native.Nat.{◌+◌, ◌*◌, ◌/◌}
+use Prim.Native.Nat.{◌+◌, ◌*◌}
 use mathlib.Core.Path.{◌≡◌, sym, ◌∙◌}
 use native.Mathlib.Omega.{arith}
 use Rattle.mix_ramp.specs.Inner.Turns.{ramp_turn}
@@ -22,8 +22,3 @@ loop-k-preserved c =
           ∙ eight_turns s.src.now c.loop-k.dst s.ramp.g0 s.ramp.step i c.load-s.ensures c.load-d.ensures c.loop-k.invariant.0 c.mixed.ensures
           ∙ turns_after (ramp_turn s.src.now s.ramp.g0 s.ramp.step) s.dst.now i (i + 8) (omega arith) c.loop-k.invariant.1),
     )
-
-pub returns-clause-mixed : goal.returns-clause-mixed
-returns-clause-mixed c =
-    let e : c.loop-k.k ≡ c.min-turns.result / 8 = omega arith in
-    rw (← e) c.loop-k.invariant.1

@@ -1,6 +1,4 @@
-use mathlib.Core.Path.{◌≡◌}
 use native.Mathlib.Omega.{arith}
-use lib.ListN.{length}
 use Rattle.mix_ramp.specs.Inner.Turns.{ramp_turn}
 use Rattle.lists.proofs.Ranges.{between_none}
 use Rattle.mix_ramp.proofs.Turns.{turns_more_from}
@@ -15,8 +13,3 @@ loop-i-preserved c =
     let s = c.args in
     rw (c.sample.ensures, c.f32_from_u64-count.ensures)
     (turns_more_from (ramp_turn s.src.now s.ramp.g0 s.ramp.step) s.dst.now s.from c.loop-i.i (omega arith) c.loop-i.invariant)
-
-pub returns : goal.returns
-returns c =
-    let e : c.loop-i.i ≡ length c.args.dst.now = omega arith in
-    rw (← e) c.loop-i.invariant

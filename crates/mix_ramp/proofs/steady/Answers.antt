@@ -1,6 +1,4 @@
-use mathlib.Core.Path.{◌≡◌, sym}
-use native.Mathlib.Omega.{arith}
-use lib.ListN.{length}
+use mathlib.Core.Path.{sym}
 use Rattle.mix_ramp.specs.Inner.Turns.{steady_turn}
 use Rattle.mix_ramp.proofs.Turns.{turns_none, turns_more}
 use Rattle.mix_ramp.proofs.steady.Goals as goal
@@ -11,8 +9,3 @@ loop-i-init c = sym (turns_none (steady_turn c.args.src.now c.args.g) c.args.dst
 pub loop-i-preserved : goal.loop-i-preserved
 unfolding steady_turn
 loop-i-preserved c = turns_more (steady_turn c.args.src.now c.args.g) c.args.dst.now c.loop-i.i c.loop-i.invariant
-
-pub returns : goal.returns
-returns c =
-    let e : c.loop-i.i ≡ length c.args.dst.now = omega arith in
-    rw (← e) c.loop-i.invariant
