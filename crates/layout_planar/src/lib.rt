@@ -104,6 +104,7 @@ fn inverse_law(ax: f64, az: f64, bx: f64, bz: f64) -> Law
 }
 
 // The law of a pair by the sines and cosines of its two azimuths, with the gap between them.
+#[tactic(auto, using(crate::proofs::Chosen::law_far, crate::proofs::Chosen::law_near))]
 fn law_of(a: SinCos<f64>, b: SinCos<f64>, gap: f64) -> Law
     ensures { result ≡ law_by a b gap }
 {
@@ -133,6 +134,7 @@ fn pair_of(g: f64, s: Spot, t: Spot, a: SinCos<f64>, b: SinCos<f64>) -> Option<P
 }
 
 // What an unused place of the pairs holds: 0, +0 or the crossfade.
+#[tactic(auto, unfolding(std::specs::Prelude::from_bits))]
 fn no_pair() -> PlanarPair
     ensures { result ≡ no_pair }
 {
