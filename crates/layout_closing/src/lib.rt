@@ -54,6 +54,7 @@ const CANDIDATES: [[f64; 3]; 14] = [
 ];
 
 // The greatest dot product of c with the points.
+#[tactic(auto, using(crate::proofs::Points::nearest_more, crate::proofs::Points::nearest_none), unfolding(crate::specs::Closing::nearest_product, std::specs::Prelude::from_bits))]
 fn nearest_product(pts: &[[f64; 3]], c: [f64; 3]) -> f64
     ensures { result ≡ nearest_product pts.now c }
 {
@@ -96,6 +97,7 @@ fn wins(nearest: f64, best: Option<Best>) -> bool
 }
 
 // The better of the best so far and c, where that is not passed over.
+#[tactic(auto, using(crate::proofs::Candidates::better_keeps, crate::proofs::Candidates::better_passed, crate::proofs::Candidates::better_wins))]
 fn better(pts: &[[f64; 3]], best: Option<Best>, c: [f64; 3]) -> Option<Best>
     requires { best ≡ best_in pts.now (found_in best) }
     ensures { result ≡ best_in pts.now (better pts.now (found_in best) c) }
@@ -122,6 +124,7 @@ fn candidate(pts: &[[f64; 3]]) -> Option<Best>
 }
 
 // The directions of the real speakers, with room for the imaginary points, in an array's first places.
+#[tactic(auto, using(std::proofs::lemmas::List::take_all, vector::proofs::Speakers::made_more), unfolding(vector::specs::Speakers::dirs_of))]
 fn with_room(real: &[Speaker]) -> [[f64; 3]; 54]
     requires { length real.now ≤ 40 }
     ensures { take (length real.now) result ≡ dirs_of real.now }
