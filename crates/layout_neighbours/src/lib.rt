@@ -48,6 +48,7 @@ struct Given<'a> {
 }
 
 // Whether the slot is among those.
+#[tactic(auto, using(lists::proofs::Tests::any_is))]
 fn contains(slots: &[u8], slot: u8) -> bool
     ensures { result ≡ member slot slots.now }
 {

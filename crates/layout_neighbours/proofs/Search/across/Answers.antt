@@ -1,13 +1,7 @@
-use Rattle.std.proofs.Common.{sym, ◌∙◌, arith}
+use Rattle.std.proofs.Common.{sym, ◌∙◌}
 use Rattle.layout_neighbours.proofs.Holds.{slots}
 use Rattle.layout_neighbours.proofs.Triplet.{across_meets, across_misses, reached_more, reached_all}
 use Rattle.layout_neighbours.proofs.Search.across.Goals as goal
-
-pub is_met-requires : goal.is_met-requires
-is_met-requires c k h = omega (arith, c.requires k h, c.args.g.few)
-
-pub loop-p-init : goal.loop-p-init
-loop-p-init c r h = h
 
 pub loop-p-preserved : goal.loop-p-preserved
 loop-p-preserved c = reached_more c.args.g.slots.now c.args.t.now c.loop-p.p-index c.loop-p.invariant c.loop-p-test.true c.reach.ensures
