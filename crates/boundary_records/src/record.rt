@@ -100,6 +100,7 @@ fn head_of(p: &VbapPanner) -> [u8; HEAD]
 }
 
 // A law's four numbers, +0 for the crossfade.
+#[tactic(auto, unfolding(crate::specs::Records::law_numbers, std::specs::Prelude::from_bits))]
 fn law_numbers(law: Law) -> [f32; 4]
     ensures { result ≡ law_numbers law }
 {
@@ -137,6 +138,7 @@ fn bytes_of(p: PlanarPair) -> [u8; 3]
 }
 
 // The entries of each pair, one pair behind another, and blanks behind them.
+#[tactic(auto, using(crate::proofs::Pasted::laid_front), unfolding(lists::specs::Lists::filled))]
 fn laid<T: Copy, const W: usize, const N: usize>(pairs: &[[T; W]], blank: T) -> [T; N]
     requires { length pairs.now * W ≤ N }
     ensures { result ≡ filled N blank (flat_map (λ entries. entries) pairs.now) }
@@ -197,6 +199,7 @@ pub fn hand_out(p: &VbapPanner, bytes: &mut [u8], floats: &mut [f32])
 // ---- read from the arrays
 
 // Silent, mono, planar, hull.
+#[tactic(auto, unfolding(crate::specs::Records::kind_from))]
 fn kind_from(n: u8) -> Kind
     ensures { result ≡ kind_from n }
 {
@@ -209,6 +212,7 @@ fn kind_from(n: u8) -> Kind
 }
 
 // The inverse for 1, and else the crossfade.
+#[tactic(auto, unfolding(crate::specs::Records::law_from))]
 fn law_from(n: u8, m0: f32, m1: f32, m2: f32, m3: f32) -> Law
     ensures { result ≡ law_from n m0 m1 m2 m3 }
 {
