@@ -120,7 +120,7 @@ impl<T> Tally<T> {
     pub fn add(&mut self)
         ensures { (self.new.name.now ≡ self.old.name.now) × (self.new.of ≡ self.old.of) × (self.new.count ≡ (self.old.count + 1) % 2 ^ 64) }
     {
-        self.count = self.count.wrapping_add(1);
+        self.count = u64::wrapping_add(self.count, 1);
     }
 }
 
