@@ -77,13 +77,12 @@ fn sqrt_by_digits<W: Width>(x: W) -> W
 
 // The root of x by a guess at it, whose digits are tested in whole numbers. Where they are not the root's, and where x has no such digits (NaNs, zeros, infinities, values that are subnormal or below zero), the root is found digit by digit.
 // Nothing is asked of the guess, and nothing rests on it: a bad one costs time and no bit.
-fn root_near<W: Width>(x: W, guess: W) -> W
+// It is made where it is tested, and not before: of a subnormal value the processor's root takes half as long again as the digits.
+fn root_near<W: Width, F: Fn(W) -> W>(x: W, guessed: F) -> W
+    requires { F.IsAlwaysCallable guessed }
     ensures { W.float result ≡ sqrt_of W.format (W.float x) }
 {
     let Some(b) = x.pattern() else {
-        return sqrt_by_digits(x)
-    };
-    let Some(g) = guess.pattern() else {
         return sqrt_by_digits(x)
     };
     let (weight, highest) = (W::FIELD, W::HIGHEST);
@@ -91,6 +90,10 @@ fn root_near<W: Width>(x: W, guess: W) -> W
     if (e == 0) || (e >= highest) {
         return sqrt_by_digits(x);
     }
+    let guess = guessed(x);
+    let Some(g) = guess.pattern() else {
+        return sqrt_by_digits(x)
+    };
     // Origin of 1 and 2: the highest field is 2 * emax + 1 (IEEE 754-2019, table 3.5)
     let emax = (highest - 1) / 2;
     // the root's exponent is half of x's, e - emax, where `even_digits` has left an even one: so its field is k + 1
@@ -108,12 +111,12 @@ fn root_near<W: Width>(x: W, guess: W) -> W
 pub fn sqrt64(x: f64) -> f64
     ensures { result ≡ sqrt_of binary64 x }
 {
-    root_near(x, x.sqrt())
+    root_near(x, |x| x.sqrt())
 }
 
 // The square root of x, to the nearest f32.
 pub fn sqrt32(x: f32) -> f32
     ensures { result ≡ sqrt_of binary32 x }
 {
-    root_near(x, x.sqrt())
+    root_near(x, |x| x.sqrt())
 }

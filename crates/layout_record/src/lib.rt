@@ -158,14 +158,14 @@ pub fn planar_over(p: &VbapPanner) -> bool
     pairs_over(p.ring_pairs(), p.num_outputs) | over(p.ring_slots(), p.num_outputs)
 }
 
-// The same of a hull, or a used point number not below real plus imaginary.
-pub fn hull_over(p: &VbapPanner) -> bool
+// The same of a hull, or a used point number not below `points`: of a record, real plus imaginary.
+pub fn hull_over(p: &VbapPanner, points: u8) -> bool
     requires { (p.now.num_real ≤ 40) × (p.now.num_imag ≤ 14) × (p.now.num_tris ≤ 80) × (every (λ n. leb n 40) p.now.num_nbrs ≡ true) }
-    ensures { result ≡ hull_out p.now.num_outputs (p.now.num_real + p.now.num_imag) (take p.now.num_real p.now.pt_out) (map (near_in p.now.num_nbrs p.now.imag_nbrs) (range p.now.num_imag)) (take (p.now.num_tris * 3) p.now.idx) }
+    ensures { result ≡ hull_out p.now.num_outputs points (take p.now.num_real p.now.pt_out) (map (near_in p.now.num_nbrs p.now.imag_nbrs) (range p.now.num_imag)) (take (p.now.num_tris * 3) p.now.idx) }
 {
     over(p.real_slots(), p.num_outputs)
         | neighbours_over(p, p.num_outputs)
-        | over(&p.idx[..p.num_tris as usize * 3], p.num_real + p.num_imag)
+        | over(&p.idx[..p.num_tris as usize * 3], points)
 }
 
 // ---- malformed
@@ -195,7 +195,7 @@ pub fn malformed(p: &VbapPanner) -> bool
         Kind::Silent => false,
         Kind::Mono => p.num_outputs <= p.mono,
         Kind::Planar => planar_over(p),
-        Kind::Hull => hull_over(p),
+        Kind::Hull => hull_over(p, p.num_real + p.num_imag),
     }
 }
 

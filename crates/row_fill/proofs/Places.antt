@@ -78,8 +78,8 @@ real_shares n points g e counts nbrs m row =
 
 -- ---- the row of a triplet
 
-module _ (v : VbapPanner) (t : ℕ) (g : List Float) (n : ℕ) where
-  pub placed_told : {row : List Float} → row ≡ real_points (take v.num_real v.pt_out) (corners v.idx t) g (replicate n +0)
-      → shared_out v.num_nbrs v.imag_nbrs (imag_points (length (take v.num_real v.pt_out)) (corners v.idx t) g) v.num_imag row ≡ placed v t g n
+module _ (slots : List ℕ) (v : VbapPanner) (t : ℕ) (g : List Float) (n : ℕ) where
+  pub placed_told : {row : List Float} → row ≡ real_points slots (corners v.idx t) g (replicate n +0)
+      → shared_out v.num_nbrs v.imag_nbrs (imag_points (length slots) (corners v.idx t) g) v.num_imag row ≡ placed slots v t g n
   unfolding placed
   placed_told e = rw e refl

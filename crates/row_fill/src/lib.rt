@@ -2,8 +2,8 @@
 // Origin of the numbers: document 01, "Returned numbers" (malformed): 80 triplets with 3 point numbers each; MAX_IMAGINARY imaginary points (vbap.rs line 60) with 40 neighbours each.
 #![tactic(auto)]
 
-ghost use Rattle.std.specs.Prelude.{◌≡◌, ◌<◌, length};
-ghost use Rattle.row_fill.specs.Counts.{PointCounts};
+ghost use Rattle.std.specs.Prelude.{◌≡◌, ◌<◌, ◌≤◌, true, leb, length};
+ghost use Rattle.lists.specs.Lists.{every};
 ghost use Rattle.row_fill.specs.Inner.Filling.{to_real, to_imag, corners, is_real, real_points, imag_points, shared_by, shared_out, placed};
 
 use layout_record::VbapPanner;
@@ -91,7 +91,7 @@ fn share(out: &mut [f32], nbrs: &[u8], g: f32)
 // Those of all imaginary points.
 #[tactic(auto, using(crate::proofs::Places::shared_none, crate::proofs::Places::shared_more, lists::proofs::Tests::every_get_d))]
 fn share_out(out: &mut [f32], panner: &VbapPanner, sums: &[f32; MAX_IMAGINARY])
-    requires { PointCounts panner.now }
+    requires { (panner.now.num_imag ≤ 14) × (every (λ n. leb n 40) panner.now.num_nbrs ≡ true) }
     ensures { out.new ≡ shared_out panner.now.num_nbrs panner.now.imag_nbrs sums.now panner.now.num_imag out.old }
 {
     // tried by `enumerate` over a cut of the sums: k names the neighbours there too, so it is no plainer, and the check asks for an answer
@@ -100,12 +100,11 @@ fn share_out(out: &mut [f32], panner: &VbapPanner, sums: &[f32; MAX_IMAGINARY])
     }
 }
 
-// The gains of triplet t in an empty row: in the slots of its real points, and shared out from its imaginary ones.
-pub fn fill(out: &mut [f32], panner: &VbapPanner, t: usize, g: [f32; 3])
-    requires { PointCounts panner.now × (t < 80) }
-    ensures { out.new ≡ placed panner.now t g (length out.old) }
+// The gains of the record's triplet t in an empty row: in the slots of real points, and shared out from its imaginary ones. The points' slots are any; the record's are `real_slots`.
+pub fn fill(out: &mut [f32], slots: &[u8], panner: &VbapPanner, t: usize, g: [f32; 3])
+    requires { (panner.now.num_imag ≤ 14) × (every (λ n. leb n 40) panner.now.num_nbrs ≡ true) × (t < 80) }
+    ensures { out.new ≡ placed slots.now panner.now t g (length out.old) }
 {
-    let slots = panner.real_slots();
     let points = corners(panner, t);
     row_places::zero(out);
     real_points(out, slots, points, g);

@@ -102,7 +102,7 @@ module _ (v : VbapPanner) where
         ∙ ap scaled (shared_told (imag_sums (length o) t g) (real_row o (replicate n +0) t g) hi)
 
     pub row_triplet : chosen_place < v.num_tris → v.num_imag ≤ 14
-        → scaled (placed v chosen_place (gains_at dir v.inv chosen_place) n)
+        → scaled (placed (take v.num_real v.pt_out) v chosen_place (gains_at dir v.inv chosen_place) n)
         ≡ hull_row n az el (hull_shape v)
     unfolding aimed gain_at inverse_at triplet_at placed imag_points real_points
     row_triplet h hi =
@@ -121,7 +121,7 @@ module _ (v : VbapPanner) where
           let h : v.num_tris ≤ chosen_place = omega arith in
           cc (row_nearest h)
 
-      pub triplet_made : (t : ℕ) (g q row : List Float) → r ≡ Some t → t < v.num_tris → v.num_imag ≤ 14 → g ≡ gains_at d v.inv t → q ≡ placed v t g n → row ≡ scaled q
+      pub triplet_made : (t : ℕ) (g q row : List Float) → r ≡ Some t → t < v.num_tris → v.num_imag ≤ 14 → g ≡ gains_at d v.inv t → q ≡ placed (take v.num_real v.pt_out) v t g n → row ≡ scaled q
           → row ≡ hull_row n az el (hull_shape v)
       triplet_made t g q row e h hi eg eq er =
           let k : t ≡ chosen_place = ap (λ (o : Option ℕ). unwrap_or o v.num_tris) (sym e) ∙ place in

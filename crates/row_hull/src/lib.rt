@@ -156,7 +156,13 @@ pub fn hull_row(panner: &VbapPanner, az: f32, el: f32, out: &mut [f32])
     match chosen(panner, s) {
         None => nearest(out, panner, s),
         Some(t) => {
-            row_fill::fill(out, panner, t, gains_at(&panner.inv, t, s));
+            row_fill::fill(
+                out,
+                panner.real_slots(),
+                panner,
+                t,
+                gains_at(&panner.inv, t, s),
+            );
             scale(out);
         }
     }

@@ -54,10 +54,9 @@ shared_at counts nbrs imag row k = shared_by (take (get_or counts k 0) (part 40 
 unfoldable pub shared_out : List ℕ → List ℕ → List Float → ℕ → List Float → List Float
 shared_out counts nbrs imag n row = foldl (shared_at counts nbrs imag) row (range n)
 
--- ---- the gains of triplet t of a record in a row of n places
+-- ---- the gains of triplet t of a record in a row of n places, with the slots of its real points
 
-unfoldable pub placed : VbapPanner → ℕ → List Float → ℕ → List Float
-placed v t g n =
-    let slots = take v.num_real v.pt_out in
+unfoldable pub placed : List ℕ → VbapPanner → ℕ → List Float → ℕ → List Float
+placed slots v t g n =
     let points = corners v.idx t in
     shared_out v.num_nbrs v.imag_nbrs (imag_points (length slots) points g) v.num_imag (real_points slots points g (replicate n +0))

@@ -11,4 +11,4 @@ returns-in-None c =
 pub returns-in-Some : goal.returns-in-Some
 returns-in-Some c =
     let a = c.args in
-    triplet_made a.panner.now (length a.out.now) a.az a.el _ c.dir_vec-s.ensures _ c.chosen.ensures.place c.in-Some.t _ _ _ c.in-Some.is c.in-Some.ensures.within c.requires.points.imag c.gains_at.ensures c.fill.ensures c.scale.ensures
+    triplet_made a.panner.now (length a.out.now) a.az a.el _ c.dir_vec-s.ensures _ c.chosen.ensures.place c.in-Some.t _ _ _ c.in-Some.is c.in-Some.ensures.within c.requires.points.imag c.gains_at.ensures (rw c.real_slots.ensures at c.fill.ensures) c.scale.ensures
