@@ -114,7 +114,7 @@ fields binary32 p z o =
 fields binary64 p z o =
     record { exponent = omega arith; digits = omega arith; leading = omega arith; odd = omega arith; some = λ h. omega arith; finite = λ h. omega arith; unsigned = omega arith }
 
-quick_root : (f : Format) (x : Float) → T (fits f x) → (n q : ℕ) → (to_bits f x / hid f ≡ 0 → ⊥) → to_bits f x / hid f < ones f → n ≡ (to_bits f x % hid f + hid f) * 2 ^ (1 - to_bits f x / hid f % 2)
+pub quick_root : (f : Format) (x : Float) → T (fits f x) → (n q : ℕ) → (to_bits f x / hid f ≡ 0 → ⊥) → to_bits f x / hid f < ones f → n ≡ (to_bits f x % hid f + hid f) * 2 ^ (1 - to_bits f x / hid f % 2)
     → IsNearest (n * hid f) q → hid f ≤ q → q < 2 ^ prec f → units f false q ((to_bits f x / hid f + (emax f - 2)) / 2) ≡ sqrt_of f x
 quick_root f x fit n q z o e h lo hi =
     let p = to_bits f x in

@@ -50,7 +50,7 @@ pub picked : {A : Type 0} (b : Bool) (v u : A) → cond b none (some v) ≡ some
 picked true v u e = cc
 picked false v u e = cc
 
-unit_three : (p u : Vector) → unit_of p ≡ Some u → length u ≡ 3
+pub unit_three : (p u : Vector) → unit_of p ≡ Some u → length u ≡ 3
 unfolding unit_of over_of
 unit_three p u = by (le (length_of p) shortest || not (is_finite (length_of p)))
   where

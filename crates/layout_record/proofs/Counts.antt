@@ -21,7 +21,7 @@ pub record Within (v : VbapPanner) : Type 0 where
   pub nbrs : every (λ n. leb n 40) v.num_nbrs ≡ true
 
 -- no number over b, and each at most b
-none_over : (b : ℕ) (l : List ℕ) → any (λ n. ltb b n) l ≡ false → every (λ n. leb n b) l ≡ true
+pub none_over : (b : ℕ) (l : List ℕ) → any (λ n. ltb b n) l ≡ false → every (λ n. leb n b) l ≡ true
 none_over b l e = every_if_none (λ a p. le-leb a b (ltb-false b a p)) l e
 
 pub within : (v : VbapPanner) → counts_over v ≡ false → Within v

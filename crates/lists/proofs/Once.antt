@@ -188,6 +188,10 @@ module _ {A : Type 0} where
   )
   once_perm (Permᴰ.trans p q) o = once_perm p (once_perm q o)
 
+  pub once_map : {B : Type 0} (f : A → B) → ((a b : A) → f a ≡ f b → a ≡ b) → (l : List A) → Once l → Once (map f l)
+  once_map f g [] o = tt
+  once_map f g (a ∷ l) o = (λ i. let r = Memᴰ.of_map f l i in o.0 (Memᴰ.cast (g a r.0 (sym r.2)) r.1), once_map f g l o.1)
+
   -- an element between others
   split_at : (m : List A) {a : A} → Memᴰ a m → (l : List A) × (r : List A) × (m ≡ l ++ a ∷ r)
   split_at [] i = absurd (Memᴰ.not-nil i)

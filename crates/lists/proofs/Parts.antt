@@ -9,7 +9,7 @@ use native.Mathlib.Omega.{arith}
 use borrow.Author.Tests.{eqb-true}
 use lib.Dec.{eqb}
 use lib.ListN.{length, get_or, take, drop, length-drop}
-use lib.Seq.{get_or-take, get_or-drop, length-take-le, take_all, take-add, take_at, drop-append-add}
+use lib.Seq.{get_or-take, get_or-drop, length-take-le, drop-append-le, take-append-le, take_all, take-add, take_at, drop-append-add}
 use Rattle.lists.specs.Lists.{from, range, part, every}
 use Rattle.lists.proofs.Ranges.{range_none, range_snoc, drop_places}
 use Rattle.lists.proofs.Collect.{flat_map_snoc}
@@ -23,6 +23,13 @@ module _ {A : Type 0} (n : ℕ) (l : List A) (k : ℕ) where
   pub get_d_part : (i : ℕ) (d : A) → i < n → get_or (part n l k) i d ≡ get_or l (k * n + i) d
   unfolding part
   get_d_part i d h = get_or-take n (drop (k * n) l) i d h ∙ get_or-drop (k * n) l i d
+
+  -- a part lies in the front that holds it
+  pub part_append : (m : List A) → k * n + n ≤ length l → part n (l ++ m) k ≡ part n l k
+  unfolding part
+  part_append m h =
+      let e : n ≤ length (drop (k * n) l) = omega (arith, length-drop (k * n) l) in
+      rw (drop-append-le (k * n) l m (omega arith)) (take-append-le n (drop (k * n) l) m e)
 
 -- ---- parts as reads
 

@@ -1,12 +1,13 @@
 -- Laws of `from`, `range` and `between`: their lengths, their elements, one number more at either end. Each goes by the count of numbers. Assumes nothing.
 use Prim.Native.Nat.{ℕ, zero, suc, ◌+◌, ◌-◌, ◌≤◌, ◌<◌}
-use mathlib.Core.Path.{◌≡◌, refl, sym, ap, ◌∙◌}
+use mathlib.Core.Path.{◌≡◌, refl, sym, ap, ◌∙◌, subst}
+use mathlib.Core.Logic.{inl, inr}
 use mathlib.Core.List.{List, [], ◌∷◌, ◌++◌, map, map-append}
-use native.Mathlib.Nat.{add-zero, sub-zero, not-suc-le-zero}
+use native.Mathlib.Nat.{add-zero, eq-or-lt_of_le, sub-zero, not-suc-le-zero}
 use native.Mathlib.Numerals.{add-one}
 use native.Mathlib.Omega.{arith}
 use lib.ListN.{length, get_or, take, drop, length-map, length-drop}
-use lib.Seq.{get_or-take, get_or-drop, length-take-le, ext_get_or}
+use lib.Seq.{get_or-take, get_or-drop, take-take, length-take-le, ext_get_or}
 use Rattle.lists.specs.Lists.{from, range, between}
 
 pub length_from : (a n : ℕ) → length (from a n) ≡ n
@@ -54,6 +55,13 @@ range_snoc n =
 pub get_d_range : (n i d : ℕ) → i < n → get_or (range n) i d ≡ i
 unfolding range
 get_d_range n i d h = get_d_from 0 n i d h ∙ omega arith
+
+-- what holds below q and at q holds below q + 1
+pub below_next : {P : ℕ → Type 0} (q : ℕ) → ((p : ℕ) → p < q → P p) → P q → (p : ℕ) → p < q + 1 → P p
+below_next {P} q h g p l = elim (eq-or-lt_of_le (last p q l)) [ inl e ↦ subst P (sym e) g | inr k ↦ h p k ]
+  where
+    last : (p q : ℕ) → p < q + 1 → p ≤ q
+    last p q h = omega arith
 
 -- ---- a .. b - 1
 
@@ -129,6 +137,10 @@ module _ {A : Type 0} (l : List A) (d : A) where
       let e : length (take n l) ≡ n = length-take-le n l h in
       ap (λ (k : ℕ). map (λ i. get_or l i d) (range k)) (sym e)
       ∙ by_places (take n l) d (λ i. get_or l i d) (λ i m. sym (get_or-take n l i d (omega arith)))
+
+  -- the first n of the elements at the first m places
+  pub take_front : (m n : ℕ) → n ≤ m → m ≤ length l → take n (map (λ i. get_or l i d) (range m)) ≡ take n l
+  take_front m n h g = ap (take n) (take_places m g) ∙ take-take n m l h
 
 -- the n elements from place k on
 pub drop_places : {A : Type 0} (l : List A) (d : A) (k n : ℕ) → k + n ≤ length l → take n (drop k l) ≡ map (λ i. get_or l (k + i) d) (range n)

@@ -215,9 +215,33 @@ module _ {A : Type 0} (f : A → Bool) (l : List A) (n i : ℕ) where
   unfolding every
   every_end h m = rw (front_end l n i h m)
 
+  pub any_turn : (d : A) → i < n → n ≤ length l → any f (drop i (take n l)) ≡ f (get_or l i d) || any f (drop (i + 1) (take n l))
+  unfolding any
+  any_turn d h m = rw (front_cons l n i d h m)
+
+  pub any_yes : (d : A) → i < n → n ≤ length l → f (get_or l i d) ≡ true → any f (drop i (take n l)) ≡ true
+  any_yes d h m p = rw (any_turn d h m, p)
+
+  pub any_no : (d : A) → i < n → n ≤ length l → f (get_or l i d) ≡ false → any f (drop i (take n l)) ≡ any f (drop (i + 1) (take n l))
+  any_no d h m p = rw (any_turn d h m, p)
+
+  pub any_end : n ≤ i → n ≤ length l → any f (drop i (take n l)) ≡ false
+  unfolding any
+  any_end h m = rw (front_end l n i h m)
+
 -- ---- no element
 
 pub empty_length : {A : Type 0} (l : List A) → is_empty l ≡ eqb (length l) 0
 unfolding is_empty
 empty_length [] = refl
 empty_length (a ∷ l) = sym (ne_eqb (suc (length l)) 0 (λ e. omega arith))
+
+-- the first n of an array's elements
+pub none_taken : {A : Type 0} (l : List A) (n : ℕ) → n ≡ 0 → is_empty (take n l) ≡ true
+unfolding is_empty
+none_taken l n e = rw e
+
+pub some_taken : {A : Type 0} (l : List A) (n : ℕ) → n ≤ length l → (n ≡ 0 → ⊥) → is_empty (take n l) ≡ false
+some_taken l n fits some =
+    let long : length (take n l) ≡ n = length-take-le n l fits in
+    empty_length (take n l) ∙ ne_eqb (length (take n l)) 0 (λ z. some (omega arith))

@@ -7,7 +7,7 @@ use native.Mathlib.Omega.{arith}
 use lib.ListN.{length, set, take, drop, replicate}
 use lib.Seq.{length-take-le}
 use lib.Ieee.{Float}
-use Rattle.float_order.specs.Values.{+0, 1·0}
+use Rattle.float_order.specs.Values.{+0, 1·0, is_finite}
 use Rattle.layout_record.specs.declared.VbapPanner.{VbapPanner}
 use Rattle.layout_record.specs.declared.Kind.{Kind}
 use Rattle.layout_record.specs.declared.Kind.TheVariants.{Silent, Mono, Planar, Hull}
@@ -20,6 +20,16 @@ use Rattle.lists.proofs.Tests.{neither}
 use Rattle.layout_record.proofs.Counts.{within}
 use Rattle.row_fill.specs.Counts.{HullCounts}
 use Rattle.row_gains.specs.Gains.{finite_or0, row_in, row_of, gains_of, gains_number, gains_buffer}
+
+-- ---- an angle
+
+pub finite_stays : (x : Float) → is_finite x ≡ true → x ≡ finite_or0 x
+unfolding finite_or0
+finite_stays x e = sym (ap (λ (b : Bool). cond b x +0) e)
+
+pub other_is_0 : (x : Float) → is_finite x ≡ false → +0 ≡ finite_or0 x
+unfolding finite_or0
+other_is_0 x e = sym (ap (λ (b : Bool). cond b x +0) e)
 
 -- ---- counts within the arrays
 

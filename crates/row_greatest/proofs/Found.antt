@@ -3,11 +3,12 @@ use Prim.Native.Nat.{ℕ, ◌≤◌, ◌<◌}
 use mathlib.Core.Path.{◌≡◌, refl, sym, ap, ap₂, ◌∙◌}
 use mathlib.Core.Bool.{Bool, true, false, ◌&&◌, ◌||◌, not, true≢false}
 use mathlib.Core.List.{List}
-use mathlib.Core.Logic.{⊎_elim}
+use mathlib.Core.Logic.{inl, inr, ⊎_elim}
 use native.Mathlib.Omega.{arith}
 use borrow.Author.Tests.{lt-ltb, le-ltb, ltb-true, ltb-false}
 use lib.Dec.{ltb}
-use lib.ListN.{length, get_or}
+use lib.ListN.{length, get_or, take}
+use lib.Seq.{get_or-take, length-take-le}
 use lib.Ieee.{Float, nan, inf, is_nan, lt}
 use Rattle.lists.specs.Lists.{every, position}
 use Rattle.lists.proofs.Tests.{and_comm, every_at}
@@ -100,3 +101,27 @@ unfolding first_greatest is_greatest
 found_none d l g t low =
     let e : position (is_greatest l) l ≡ length l = position_none (is_greatest l) nan l (λ j h. rw (none_high l g t low j h) refl) in
     sym (rw (e, le-ltb (length l) (length l) (omega arith)) refl)
+
+-- ---- of the first n numbers of an array
+
+module _ (l : List Float) (n : ℕ) (h : n ≤ length l) where
+  same : (j : ℕ) → j < n → get_or (take n l) j nan ≡ get_or l j nan
+  same j k = get_or-take n l j nan k
+
+  long : length (take n l) ≡ n
+  long = length-take-le n l h
+
+  pub top_take : (g : Float) → Top l 0 n g → Top (take n l) 0 (length (take n l)) g
+  top_take g t =
+      rw long (record {
+        none_above = λ j p q. ap (lt g) (same j q) ∙ t.none_above j p q;
+        held = ⊎_elim (λ e. inl e) (λ s. inr (record { place = s.place; from = s.from; to = s.to; is = same s.place s.to ∙ s.is; high = s.high })) t.held;
+      })
+
+  pub kept_take : (g : Float) (i : ℕ) → FirstKept g l n i → FirstKept g (take n l) (length (take n l)) i
+  kept_take g i k =
+      rw long (record {
+        within = k.within;
+        before = λ j p q. ap (passed g) (same j (let w = k.within in omega arith)) ∙ k.before j p q;
+        kept = λ q. ap (passed g) (same i q) ∙ k.kept q;
+      })

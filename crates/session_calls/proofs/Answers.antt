@@ -39,7 +39,7 @@ answer_of_lem s c {n} {t} p q =
     ap (λ (m : ℕ). record { number = m; session = t }) (sym p) ∙ ap (λ (u : Session). record { number = number_of s c; session = u }) (sym q)
 
 module _ (s : Session) (c : Call) {why : ℕ} (w : why ≡ number_of s c) where
-  refused_as : (why ≡ 0 → ⊥) → ◌≡◌ {A = Answer} (record { number = why; session = s }) (answer_of s c)
+  pub refused_as : (why ≡ 0 → ⊥) → ◌≡◌ {A = Answer} (record { number = why; session = s }) (answer_of s c)
   refused_as h = answer_of_lem s c (sym w) (after_refused s c (λ e. h (w ∙ e)))
 
   pub accepted_as : why ≡ 0 → {t : Session} → t ≡ accepted s c → ◌≡◌ {A = Answer} (record { number = 0; session = t }) (answer_of s c)

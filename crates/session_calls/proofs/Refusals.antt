@@ -93,6 +93,10 @@ module _ (s : Session) (i : ℕ) where
   unfolding on_source
   malformed_source own m = rw m
 
+  pub no_source : (own : ℕ) → malformed_session s ≡ false → leb s.sources i ≡ true → on_source s i own ≡ 5
+  unfolding on_source
+  no_source own m h = rw (m, h)
+
   pub on_source_lem : (own : ℕ) → malformed_session s ≡ false → leb s.sources i ≡ false → on_source s i own ≡ own
   unfolding on_source
   on_source_lem own m h = rw (m, h)
@@ -167,11 +171,15 @@ module _ (s : Session) (i : ℕ) where
   unfolding number_of
   place_passed az el z = (passed s i _ z, leb-false depth (standing_count s i) (room _ (own_passed s i _ z)))
 
-  take_passed : number_of s (take_back i) ≡ 0 → Passed s i × (1 ≤ standing_count s i)
+  pub take_passed : number_of s (take_back i) ≡ 0 → Passed s i × (1 ≤ standing_count s i)
   unfolding number_of
   take_passed z =
       let h : standing_count s i ≡ 0 → ⊥ = eqb-false (standing_count s i) 0 (some _ (own_passed s i _ z)) in
       (passed s i _ z, omega arith)
+
+  pub settle_passed : number_of s (settle i) ≡ 0 → Passed s i
+  unfolding number_of
+  settle_passed z = passed s i _ z
 
 -- and a call that is not refused, by the number that was returned
 module _ (s : Session) (i : ℕ) where
