@@ -1,17 +1,16 @@
 -- A record and a session that were handed out are taken in as they were. Assumes nothing.
-use Prim.Native.Nat.{ℕ, zero, suc, ◌+◌, ◌-◌, ◌*◌, ◌≤◌, ◌<◌, min}
+use Prim.Native.Nat.{ℕ, zero, suc, ◌+◌, ◌*◌, ◌≤◌, ◌<◌, min}
 use mathlib.Core.Path.{◌≡◌, refl, sym, ap, ◌∙◌}
 use mathlib.Core.Bool.{Bool, true, false, cond}
 use mathlib.Core.List.{List, [], ◌∷◌, ◌++◌, append_assoc, map, flat_map}
-use native.Mathlib.Nat.{zero-mul, suc-mul, not-suc-le-zero}
+use native.Mathlib.Nat.{not-suc-le-zero}
 use native.Mathlib.Omega.{arith}
 use borrow.Author.Tests.{eq-eqb, eqb-true, leb-true}
 use lib.Dec.{eqb, leb}
 use lib.Ieee.{Float, nan}
-use lib.ListN.{length, get_or, take, drop, replicate, length-append, length-take, replicate-append-replicate, take-append-drop, get_or-append, length-map}
+use lib.ListN.{length, get_or, take, drop, length-take, take-append-drop, get_or-append, length-map}
 use lib.Seq.{length-take-le, get_or-append-add, get_or_at, append_snoc, ext_get_or}
 use Rattle.lists.specs.Lists.{range, every, filled}
-use Rattle.lists.proofs.Collect.{flat_map_append}
 use Rattle.lists.proofs.Each.{each_all, each_every, each_imply, length_rows}
 use Rattle.layout_neighbours.proofs.Laid.{rows_long}
 use Rattle.lists.proofs.Filled.{length_filled, take_filled}
@@ -38,54 +37,15 @@ use Rattle.session_calls.specs.declared.Session.{Session}
 use Rattle.boundary_records.specs.Meaning.{Whole, HandedBack, SessionHandedBack, LeftTakenIn, NewWhole}
 use Rattle.boundary_records.proofs.Known.{kind_known, laws_known}
 use Rattle.boundary_records.proofs.Laid.{length_bytes, length_floats}
+use Rattle.boundary_records.proofs.Pairs.{length_flat, flat_filled, six, three}
 use Rattle.boundary_records.proofs.Pasted.{length_two, section_front, section_last}
 use Rattle.boundary_records.proofs.Records.{record_made, session_made}
-
--- ---- parts of one length, one after another
-
-module _ {A B : Type 0} (w : ℕ) (f : A → List B) (z : A) (y : B) where
-  length_flat : ((a : A) → length (f a) ≡ w) → (l : List A) → length (flat_map f l) ≡ length l * w
-  unfolding flat_map
-  length_flat e [] = sym (zero-mul w)
-  length_flat e (a ∷ l) = length-append (f a) (flat_map f l) ∙ omega (arith, e a, length_flat e l, suc-mul (length l) w)
-
-  flat_replicate : f z ≡ replicate w y → (k : ℕ) → flat_map f (replicate k z) ≡ replicate (k * w) y
-  unfolding flat_map
-  flat_replicate e zero = ap (λ (n : ℕ). replicate n y) (sym (zero-mul w))
-  flat_replicate e (suc k) =
-      let g : w + k * w ≡ suc k * w = omega (arith, suc-mul k w) in
-      ap (λ (r : List B). r ++ flat_map f (replicate k z)) e
-      ∙ ap (λ (r : List B). replicate w y ++ r) (flat_replicate e k)
-      ∙ replicate-append-replicate w (k * w) y
-      ∙ ap (λ (n : ℕ). replicate n y) g
-
-  -- parts that are filled up, and what they make that is filled up
-  flat_filled : (n m : ℕ) (l : List A) → ((a : A) → length (f a) ≡ w) → f z ≡ replicate w y → m - length l * w ≡ (n - length l) * w
-      → filled m y (flat_map f l) ≡ flat_map f (filled n z l)
-  unfolding filled
-  flat_filled n m l e g h =
-      ap (λ (k : ℕ). flat_map f l ++ replicate (m - k) y) (length_flat e l)
-      ∙ ap (λ (k : ℕ). flat_map f l ++ replicate k y) h
-      ∙ ap (λ (r : List B). flat_map f l ++ r) (sym (flat_replicate g (n - length l)))
-      ∙ sym (flat_map_append f l (replicate (n - length l) z))
 
 -- what stands behind a first part
 behind : {A : Type 0} (x y : List A) (w k m : ℕ) (d : A) → length x ≡ w → k ≡ w + m → get_or (x ++ y) k d ≡ get_or y m d
 behind x y w k m d e f = ap (λ (j : ℕ). get_or (x ++ y) j d) (f ∙ ap (λ (j : ℕ). j + m) (sym e)) ∙ get_or-append-add x y m d
 
 -- ---- a pair
-
-six : (p : PlanarPair) → length (numbers_of p) ≡ 6
-unfolding numbers_of
-six p = by p.law
-  where
-    by : (l : Law) → length (p.start ∷ p.gap ∷ law_numbers l) ≡ 6
-    by (Inverse a b c d) = refl
-    by Crossfade = refl
-
-three : (p : PlanarPair) → length (bytes_of p) ≡ 3
-unfolding bytes_of
-three p = refl
 
 first_pair : (p : PlanarPair) (ns : List Float) (bs : List ℕ) → pair_from (numbers_of p ++ ns) (bytes_of p ++ bs) 0 ≡ p
 unfolding pair_from numbers_of bytes_of law_from

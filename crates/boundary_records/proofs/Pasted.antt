@@ -6,13 +6,11 @@ use borrow.Rule.Slice.PartMut.{put_mid, Post-is}
 use denote.Param.Members.{Mut}
 use Rattle.std.specs.Array.{IsFromFnResult}
 use Rattle.std.specs.Fn.{Called}
-use Rattle.std.proofs.lemmas.List.{get_or_default, drop-replicate}
-use Rattle.lists.specs.Lists.{filled}
+use Rattle.std.proofs.lemmas.List.{get_or_default}
 use Rattle.lists.proofs.Made.{from_fn_made}
 use Rattle.lists.proofs.Ranges.{drop_places}
-use native.Mathlib.Nat.{zero-add}
 use native.Mathlib.Omega.{arith}
-use lib.ListN.{length, get_or, take, drop, replicate, length-append, length-drop}
+use lib.ListN.{length, get_or, take, drop, length-append, length-drop}
 use lib.Seq.{take_all, take_at, drop_at, drop-drop, take-append-le, drop-append-le}
 use Rattle.boundary_records.specs.Inner.Pasted.{pasted, Pasted}
 use Rattle.boundary_records.specs.Records.{section}
@@ -39,20 +37,6 @@ module _ {A : Type 0} where
       ap (λ (l : List A). l ++ take n ys ++ drop (b + n) (xs ++ drop b to)) (take_at xs (drop b to) b h)
       ∙ ap (λ (l : List A). xs ++ l ++ drop (b + n) (xs ++ drop b to)) (take_all n ys (omega arith))
       ∙ ap (λ (l : List A). xs ++ ys ++ l) (sym (drop-drop n b (xs ++ drop b to)) ∙ ap (drop n) (drop_at xs (drop b to) b h) ∙ drop-drop n b to ∙ ap (λ (k : ℕ). drop k to) e)
-
-  -- an array in the first places of one value
-  pub laid_front : (n : ℕ) (z : A) (l : List A) {r : List A} → Pasted (replicate n z) 0 l (length l) r → r ≡ filled n z l
-  unfolding pasted filled
-  laid_front n z l p =
-      p.is
-      ∙ ap (λ (front : List A). front ++ take (length l) l ++ drop (0 + length l) (replicate n z)) (take_zero (replicate n z))
-      ∙ ap (λ (m : List A). m ++ drop (0 + length l) (replicate n z)) (take_all (length l) l (omega arith))
-      ∙ ap (λ (k : ℕ). l ++ drop k (replicate n z)) (zero-add (length l))
-      ∙ ap (λ (m : List A). l ++ m) (drop-replicate (length l) n z)
-    where
-      take_zero : (l : List A) → take 0 l ≡ []
-      take_zero [] = refl
-      take_zero (x ∷ l) = refl
 
   pub length_two : (xs ys : List A) (b n m : ℕ) → length xs ≡ b → length ys ≡ n → b + n ≡ m → length (xs ++ ys) ≡ m
   length_two xs ys b n m h g e = omega (arith, length-append xs ys, h, g, e)

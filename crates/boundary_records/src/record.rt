@@ -3,8 +3,9 @@
 // Its bytes: the head, the pairs' bytes, the slots, the points' slots, the triplets' point numbers, the counts of neighbours, the neighbours.
 // Its floats: the pairs' numbers, the points' directions, the triplets' inverses.
 // Each part begins where the one before ends; specs/Places.antt has the same numbers.
-ghost use Rattle.std.specs.Prelude.{◌≡◌, ◌*◌, min, cond, List, ◌++◌, map, flat_map, ◌≤◌, ◌<◌, length, take, drop};
+ghost use Rattle.std.specs.Prelude.{◌≡◌, min, cond, List, ◌++◌, map, ◌≤◌, ◌<◌, length, drop};
 ghost use Rattle.lists.specs.Lists.{range, filled};
+ghost use Rattle.layout_planar.specs.declared.PlanarPair.{PlanarPair};
 ghost use Rattle.boundary_records.specs.Places.{most_outputs, most_imaginary, head_places, pair_byte_places, slots_at, out_at, idx_at, idx_places, counts_of_nbrs_at, nbrs_at, nbr_places, record_byte_places, pair_float_places, dir_places, inv_at, inv_places, record_float_places};
 ghost use Rattle.boundary_records.specs.Records.{kind_number, head_of, law_numbers, law_number, numbers_of, bytes_of, record_bytes, record_floats, kind_from, law_from, pair_from, known, no_record, record_from};
 
@@ -137,14 +138,17 @@ fn bytes_of(p: PlanarPair) -> [u8; 3]
     [p.a, p.b, law_number(p.law)]
 }
 
-// The entries of each pair, one pair behind another, and blanks behind them.
-#[tactic(auto, using(crate::proofs::Pasted::laid_front), unfolding(lists::specs::Lists::filled))]
-fn laid<T: Copy, const W: usize, const N: usize>(pairs: &[[T; W]], blank: T) -> [T; N]
-    requires { length pairs.now * W ≤ N }
-    ensures { result ≡ filled N blank (flat_map (λ entries. entries) pairs.now) }
+// The entries of each pair, in the first places, and blanks behind them.
+fn laid<E: Copy, F: Fn(PlanarPair) -> E>(pairs: &[PlanarPair], blank: E, entries: F) -> [E; OUTPUTS]
+    requires fits { length pairs.now ≤ most_outputs }
+    requires callable { F.IsAlwaysCallable entries }
+    // whatever g says of a pair's entries
+    ensures { (g : PlanarPair → E) → ((p : PlanarPair) (y : E) → F.post entries p y → y ≡ g p) → result ≡ filled most_outputs blank (map g pairs.now) }
 {
-    let mut to = [blank; N];
-    put(pairs.as_flattened(), &mut to, 0);
+    let mut to = [blank; OUTPUTS];
+    for (i, p) in pairs.iter().enumerate() {
+        to[i] = entries(*p);
+    }
     to
 }
 
@@ -164,8 +168,8 @@ fn put_bytes(p: &VbapPanner, to: &mut [u8])
     ensures long { length (record_bytes p.now) ≡ record_byte_places }
 {
     put(&head_of(p), to, 0);
-    let pairs: [u8; PAIR_BYTES] = laid(&p.pairs.map(bytes_of)[..used(p)], 0);
-    put(&pairs, to, HEAD);
+    let pairs = laid(&p.pairs[..used(p)], [0; 3], bytes_of);
+    put(pairs.as_flattened(), to, HEAD);
     put(&p.slots, to, SLOTS_AT);
     put(&p.pt_out, to, OUT_AT);
     put(&p.idx, to, IDX_AT);
@@ -179,8 +183,8 @@ fn put_floats(p: &VbapPanner, to: &mut [f32])
     ensures to_after { to.new ≡ record_floats p.now ++ drop record_float_places to.old }
     ensures long { length (record_floats p.now) ≡ record_float_places }
 {
-    let pairs: [f32; PAIR_FLOATS] = laid(&p.pairs.map(numbers_of)[..used(p)], 0.0);
-    put(&pairs, to, 0);
+    let pairs = laid(&p.pairs[..used(p)], [0.0; 6], numbers_of);
+    put(pairs.as_flattened(), to, 0);
     put(&p.pt_dir, to, PAIR_FLOATS);
     put(&p.inv, to, INV_AT);
 }

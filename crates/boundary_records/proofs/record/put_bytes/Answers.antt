@@ -1,25 +1,26 @@
 -- `boundary_records::record::put_bytes` meets its contract: the record's parts are laid one behind another. Assumes nothing.
-use Prim.Native.Nat.{min}
-use mathlib.Core.Path.{◌≡◌}
+use mathlib.Core.Path.{◌≡◌, refl}
 use native.Mathlib.Omega.{arith}
-use lib.ListN.{length}
+use lib.ListN.{length, take}
 use Rattle.std.proofs.Common.{rules}
+use Rattle.layout_planar.specs.Planar.{no_pair}
 use Rattle.boundary_records.specs.Places.{most_outputs, most_imaginary, head_places, pair_byte_places, idx_places, nbr_places}
-use Rattle.lists.proofs.Made.{map_made}
 use Rattle.boundary_records.specs.Records.{bytes_of, pair_bytes}
-use Rattle.boundary_records.proofs.Pairs.{used_laid}
+use Rattle.boundary_records.proofs.Pairs.{used_laid, three}
 use Rattle.boundary_records.proofs.Pasted.{put_is, three_pasted, four_pasted}
 use Rattle.boundary_records.proofs.Laid.{out_bytes}
 use Rattle.boundary_records.proofs.record.put_bytes.Goals as goal
 
 pub returns : goal.returns
-unfolding pair_bytes
+unfolding pair_bytes bytes_of
 returns c =
     let p = c.args.p.now in
     let head : length c.head_of.result ≡ head_places = search rules in
-    let made : c.laid-pairs.result ≡ pair_bytes p.num_pairs p.pairs =
-    used_laid pair_byte_places (min p.num_pairs most_outputs) 0 bytes_of p.pairs (map_made _ bytes_of c.used.ensures.long c.map.ensures.items (λ q x r t k. search rules)) (rw (← c.used.ensures.count) c.laid-pairs.ensures) in
-    let pairs : length c.laid-pairs.result ≡ pair_byte_places = search rules in
+    let made : c.as_flattened.result.now ≡ pair_bytes p.num_pairs p.pairs =
+    rw (← c.used.ensures.count)
+    (used_laid 3 most_outputs pair_byte_places bytes_of no_pair 0 (take c.used.result p.pairs) three refl (omega arith) refl
+    (c.laid-pairs.ensures bytes_of (λ q y t. search rules)) c.as_flattened.ensures.value) in
+    let pairs : length c.as_flattened.result.now ≡ pair_byte_places = omega (arith, c.as_flattened.ensures.len) in
     let slots : length p.slots ≡ most_outputs = omega arith in
     let out : length p.pt_out ≡ most_outputs = omega arith in
     let idx : length p.idx ≡ idx_places = omega arith in
