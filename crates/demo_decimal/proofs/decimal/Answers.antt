@@ -1,5 +1,6 @@
 -- `demo_decimal::decimal` meets its contract: a value's fields give its size in smallest values, and `round_shift` rounds its steps. Assumes nothing.
 use Rattle.std.proofs.Common.{◌≡◌, sym, ap, ◌∙◌, subst, ℕ, ◌+◌, ◌*◌, ◌%◌, ◌/◌, ◌^◌, ◌-◌, refl, Bool, true, not}
+use native.Mathlib.Omega.{arith}
 use lib.Dec.{T}
 use lib.Ieee.{Float, nan, inf, fin, binary32, fits, is_nan, to_bits}
 use lib.Ieee.Nearest.{closest}
@@ -39,5 +40,5 @@ pub returns-else-e-eq0 : goal.returns-else-e-eq0
 returns-else-e-eq0 c =
     let b = to_bits binary32 c.args.x in
     let p : (c.from-t.result + 8388608) * c.pow-power.result ≡ (b % 8388608 + 8388608) * 10 ^ c.args.places = ap (λ (n : ℕ). (n + 8388608) * c.pow-power.result) c.from-t.ensures ∙ ap (λ (n : ℕ). (b % 8388608 + 8388608) * n) c.pow-power.ensures in
-    ap Steps (c.round_shift-else-e-eq0.ensures ∙ ap (λ (n : ℕ). closest n (2 ^ (150 - b % 2147483648 / 8388608))) p)
+    ap Steps (c.round_shift-else-e-eq0.ensures ∙ ap (λ (n : ℕ). closest n (2 ^ (150 - b % 2147483648 / 8388608))) (omega (arith, p)))
     ∙ mid_is c.args.places c.args.x (held (goal.at.returns-else-e-eq0 c).Else-is_nan) c.if-e-eq0.false c.if-e-gt-BELOW_LARGE.false
