@@ -5,8 +5,9 @@ pub mod lines;
 pub mod report;
 pub mod values;
 
-ghost use Rattle.std.specs.Prelude.{◌≡◌, MatchOption, ◌<◌, ◌≤◌, length};
+ghost use Rattle.std.specs.Prelude.{◌≡◌, MatchOption, IfOk, ◌<◌, ◌≤◌, length};
 ghost use Rattle.test_lines.specs.Words.{digit_of, number_of, span_to, is_name_byte, all_name, kind_of, word_at};
+ghost use Rattle.test_lines.specs.declared.Reading.TheVariants.{Strict, On};
 
 use crate::report::Tally;
 
@@ -26,11 +27,22 @@ pub enum Word {
 #[derive(Clone, Copy, Debug, PartialEq, Eq)]
 pub struct Malformed;
 
+// Whether the arguments behind a malformed one are read.
+#[derive(Clone, Copy)]
+pub enum Reading {
+    Strict,
+    // they are, and none was malformed so far
+    On,
+    // they are, and one was
+    Behind,
+}
+
 // The words of a line that are left: those from an index on. Past the line's end there is none.
 #[derive(Clone, Copy)]
 pub struct Words<'a> {
     pub line: &'a [u8],
     pub at: usize,
+    pub reading: Reading,
 }
 
 // The value of a lower-case hexadecimal digit. No to_digit of std: it takes capitals too.
@@ -103,9 +115,33 @@ fn kind(w: &[u8], from: usize, to: usize) -> Word
 impl<'a> Words<'a> {
     // All words of a line.
     pub fn of(line: &'a [u8]) -> Words<'a>
-        ensures { (result.line.now ≡ line.now) × (result.at ≡ 0) }
+        ensures { (result.line.now ≡ line.now) × (result.at ≡ 0) × (result.reading ≡ Strict) }
     {
-        Words { line, at: 0 }
+        Words {
+            line,
+            at: 0,
+            reading: Reading::Strict,
+        }
+    }
+
+    // From here on the arguments behind a malformed one are read too, and `end` tells of it.
+    pub fn read_on(&mut self)
+        ensures { (self.new.line ≡ self.old.line) × (self.new.at ≡ self.old.at) × (self.new.reading ≡ On) }
+    {
+        self.reading = Reading::On;
+    }
+
+    // An argument is malformed: what stands in for it, where those behind it are read.
+    fn malformed<T: Copy>(&mut self, instead: T) -> Result<T, Malformed>
+        ensures { IfOk result (λ x. x ≡ instead) }
+    {
+        match self.reading {
+            Reading::Strict => Err(Malformed),
+            Reading::On | Reading::Behind => {
+                self.reading = Reading::Behind;
+                Ok(instead)
+            }
+        }
     }
 
     // The next word.
@@ -151,10 +187,10 @@ impl<'a> Words<'a> {
         Ok(tally.of)
     }
 
-    // No word may be left.
+    // No word may be left, and no argument may have been malformed.
     pub fn end(&mut self) -> Result<(), Malformed> {
-        match self.next() {
-            Word::End => Ok(()),
+        match (self.next(), self.reading) {
+            (Word::End, Reading::Strict | Reading::On) => Ok(()),
             _ => Err(Malformed),
         }
     }

@@ -181,11 +181,15 @@ impl<'a> Words<'a> {
         }
     }
 
-    // An argument: a float is its pattern, and no nan.
+    // An argument: a float is its pattern, and no nan. For one that is malformed stands the number that it is in another form, or 0.
     fn bits(&mut self, form: Form) -> Result<u64, Malformed> {
-        match self.take(form, Role::Argument)? {
-            Value::Bits(b) => Ok(b),
-            Value::Nan => Err(Malformed),
+        let mut word = *self;
+        match self.take(form, Role::Argument) {
+            Ok(Value::Bits(b)) => Ok(b),
+            _ => match word.next() {
+                Word::Number(b, _) => self.malformed(b),
+                _ => self.malformed(0),
+            },
         }
     }
 
@@ -198,17 +202,17 @@ impl<'a> Words<'a> {
         T::read(self)
     }
 
-    // A whole number up to a greatest one.
+    // A whole number up to a greatest one. For one that is malformed or greater stands 0.
     pub fn up_to(&mut self, most: usize) -> Result<usize, Malformed>
         ensures { IfOk result (λ n. n ≤ most) }
     {
         let n: usize = self.read()?;
-        if n <= most { Ok(n) } else { Err(Malformed) }
+        if n <= most { Ok(n) } else { self.malformed(0) }
     }
 
     // One of a list, by its number.
     pub fn one_of<T: Copy>(&mut self, list: &[T]) -> Result<T, Malformed> {
-        let number: usize = self.read()?;
+        let number = self.up_to(list.len().saturating_sub(1))?;
         list.get(number).copied().ok_or(Malformed)
     }
 
@@ -254,7 +258,8 @@ impl Given for usize {
 
 impl Given for u8 {
     fn read(words: &mut Words<'_>) -> Result<u8, Malformed> {
-        u8::try_from(words.bits(Form::Whole)?).map_err(|_| Malformed)
+        let n = words.up_to(usize::from(u8::MAX))?;
+        u8::try_from(n).map_err(|_| Malformed)
     }
 }
 
