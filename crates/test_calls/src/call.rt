@@ -1,4 +1,7 @@
 // The calls of lists: the words of each, the call itself, and what it answered.
+ghost use Rattle.std.specs.Prelude.{◌≡◌};
+ghost use Rattle.session_open.specs.Open.{no_session};
+
 use crate::ending::check_end;
 use crate::given;
 use crate::report::{COUNT, Got, NUMBERS, Name, tallies};
@@ -38,7 +41,10 @@ fn check_number(got: u32, told: u64) -> Result<(), Difference<Got>> {
 }
 
 // The session after a refused open, which gives none: every call on it is refused.
-fn no_session() -> Session {
+#[tactic(auto, unfolding(session_open::specs::Open::no_session, session_open::specs::Open::fresh))]
+fn no_session() -> Session
+    ensures { result ≡ no_session }
+{
     Session {
         panner: no_panner(),
         sources: 0,
