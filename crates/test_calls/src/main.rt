@@ -12,8 +12,8 @@ use report::{Got, Name, totals};
 use session_calls::Session;
 use std::io::Read;
 use std::{fs, io};
-use test_lines::lines::{Case, Lines, Told};
-use test_lines::report::Difference;
+use test_lines::lines::{Case, List, Told};
+use test_lines::report::{Difference, put};
 
 // The samples of eight sources, and those of forty outputs. Origin: document 01, refusals 3, 2 and 8; one more than a block may have.
 const SAMPLES: usize = 8200;
@@ -44,24 +44,29 @@ fn replayed(
 }
 
 // The lists of a reader, and what they come to. A list that has no end counts as one that differs.
-fn replay(rt: &(impl AllocGlobal + Print), input: &mut impl Read) -> io::Result<()> {
+fn replay(out: &impl Print, input: &mut impl Read) {
     let mut calls = Calls::none();
     let mut samples = [0.0f32; SAMPLES];
     let mut outputs = [0.0f32; OUTPUTS];
-    let mut lines = Lines::of(rt.alloc(), input)?;
-    let mut differences = lines.replay(rt, Told::Line, |case| {
+    let mut list = List::of(input);
+    let mut differences = list.replay(out, Told::Line, |case| {
         replayed(case, &mut calls, &mut samples, &mut outputs)
-    })?;
+    });
     if calls.is_begun() {
         let outcome: Result<(), Difference<Got>> = Err(Difference::Malformed);
-        differences.tell(rt, lines.number, Some(b""), outcome)?;
+        let line = Case {
+            number: list.lines.number,
+            line: Ok(b""),
+        };
+        differences.tell(out, line, Told::Line, outcome);
     }
-    totals(rt, &calls.tallies, &calls.numbers, differences)
+    totals(out, &calls.tallies, &calls.numbers, differences);
 }
 
 // The lists of standard input, none of which may differ; then those of the file `faults`, wrong expectations and malformed lines, which all have to be found.
 fn main(rt: HostRuntime) -> io::Result<()> {
-    replay(&rt, &mut rt.reader())?;
-    println!(rt; "faults, each of which has to be found:")?;
-    replay(&rt, &mut fs::open(&rt, "faults")?)
+    replay(&rt, &mut rt.reader());
+    put(&rt, "faults, each of which has to be found:\n");
+    replay(&rt, &mut fs::open(&rt, "faults")?);
+    Ok(())
 }

@@ -1,8 +1,8 @@
 // The names of lines, how a line differs, and what the lists of a replay come to.
 use refusals::Refusal;
-use std::{fmt, io};
+use std::fmt;
 use test_call_words::sums::Sum;
-use test_lines::report::{Differences, Tally};
+use test_lines::report::{Differences, Tally, put};
 use test_lines::values::Shown;
 
 #[derive(Clone, Copy)]
@@ -50,14 +50,14 @@ pub enum Got {
 impl fmt::Display for Got {
     fn fmt<W: fmt::Write>(&self, f: &mut fmt::Formatter<W>) -> fmt::Result {
         match self {
-            Got::Number(got) => write!(f, "got number {got}"),
-            Got::Imaginary(got) => write!(f, "got imaginary {got}"),
-            Got::Answers(got) => write!(f, "got sum of answers {got}"),
-            Got::Record(got) => write!(f, "got sum of record {got}"),
-            Got::Sources(got) => write!(f, "got sources {got}"),
-            Got::Count(place, got) => write!(f, "count {place} got {got}"),
-            Got::Standing(place, got) => write!(f, "standing {place} got {got}"),
-            Got::Start(place, got) => write!(f, "start {place} got {got}"),
+            Got::Number(got) => write!(f, " got number {got}"),
+            Got::Imaginary(got) => write!(f, " got imaginary {got}"),
+            Got::Answers(got) => write!(f, " got sum of answers {got}"),
+            Got::Record(got) => write!(f, " got sum of record {got}"),
+            Got::Sources(got) => write!(f, " got sources {got}"),
+            Got::Count(place, got) => write!(f, " count {place} got {got}"),
+            Got::Standing(place, got) => write!(f, " standing {place} got {got}"),
+            Got::Start(place, got) => write!(f, " start {place} got {got}"),
         }
     }
 }
@@ -68,21 +68,24 @@ pub fn totals(
     tallies: &[Tally<Name>; COUNT],
     numbers: &[u64; NUMBERS],
     differences: Differences,
-) -> io::Result<()> {
+) {
     let mut calls: u64 = 0;
     let mut lists: u64 = 0;
     for tally in tallies {
         match tally.of {
             Name::End => lists = tally.count,
-            Name::Session => println!(out; "{tally}")?,
+            Name::Session => put(out, format_args!("{tally}\n")),
             _ => {
-                println!(out; "{tally}")?;
+                put(out, format_args!("{tally}\n"));
                 calls = calls.wrapping_add(tally.count);
             }
         }
     }
     for (number, count) in numbers.iter().enumerate() {
-        println!(out; "number {number}: {count}")?;
+        put(out, format_args!("number {number}{} {count}\n", ":"));
     }
-    println!(out; "calls {calls}\nlists {lists}\n{differences}")
+    put(
+        out,
+        format_args!("{} {calls}\n{} {lists}\n{differences}\n", "calls", "lists"),
+    );
 }

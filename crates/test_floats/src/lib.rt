@@ -5,8 +5,8 @@
 mod functions;
 
 use functions::{Function, check, tallies};
-use std::{fmt, io};
-use test_lines::lines::{Case, Lines, Told};
+use std::fmt;
+use test_lines::lines::{Case, List, Told};
 use test_lines::report::{Difference, Tally, write_tallies};
 use test_lines::values::Shown;
 
@@ -19,9 +19,10 @@ enum Answered {
 
 impl fmt::Display for Answered {
     fn fmt<W: fmt::Write>(&self, f: &mut fmt::Formatter<W>) -> fmt::Result {
+        f.write_str(" got")?;
         match self {
-            Answered::One(got) => write!(f, "got {got}"),
-            Answered::Two(first, second) => write!(f, "got {first} {second}"),
+            Answered::One(got) => write!(f, " {got}"),
+            Answered::Two(first, second) => write!(f, " {first} {second}"),
         }
     }
 }
@@ -39,9 +40,9 @@ fn replayed(case: Case<'_>, tallies: &mut [Tally<Function>]) -> Result<(), Diffe
 }
 
 // Replays the list of standard input.
-pub fn replay(rt: &(impl AllocGlobal + Input + Print)) -> io::Result<()> {
+pub fn replay(rt: &(impl Input + Print)) {
     let tallies = &mut tallies()[..];
-    let mut lines = Lines::of(rt.alloc(), rt.reader())?;
-    let differences = lines.replay(rt, Told::Part, |case| replayed(case, tallies))?;
-    write_tallies(rt, tallies, differences)
+    let mut list = List::of(rt.reader());
+    let differences = list.replay(rt, Told::Part, |case| replayed(case, tallies));
+    write_tallies(rt, tallies, differences);
 }

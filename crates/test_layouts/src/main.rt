@@ -5,8 +5,7 @@
 mod fields;
 
 use fields::check_made;
-use std::io;
-use test_lines::lines::{Case, Lines, Told};
+use test_lines::lines::{Case, List, Told};
 use test_lines::report::{Difference, write_cases};
 
 // How a line differs: the name of the first field that does.
@@ -25,12 +24,12 @@ fn replayed(case: Case<'_>) -> Result<(), Difference<&'static str>> {
     Ok(())
 }
 
-fn main(rt: HostRuntime) -> io::Result<()> {
+fn main(rt: HostRuntime) {
     let mut cases: u64 = 0;
-    let mut lines = Lines::of(rt.alloc(), rt.reader())?;
-    let differences = lines.replay(&rt, Told::Nothing, |case| {
+    let mut list = List::of(rt.reader());
+    let differences = list.replay(&rt, Told::Nothing, |case| {
         cases = cases.wrapping_add(1);
         replayed(case)
-    })?;
-    write_cases(&rt, cases, differences)
+    });
+    write_cases(&rt, cases, differences);
 }

@@ -3,10 +3,30 @@ ghost use Rattle.std.specs.Prelude.{◌≡◌, ◌+◌, ◌%◌, ◌^◌, true, 
 ghost use Rattle.test_lines.specs.declared.report.Difference.TheVariants.{At};
 
 use crate::Malformed;
-use std::{fmt, io};
+use crate::lines::{Case, Told};
+use std::fmt;
 
 // How many lines that differ are written. Origin: docs/CASES.md, "Replaying".
 const SHOWN: u64 = 5;
+
+// Where texts are written piece by piece. A piece that cannot be written is passed over, and those behind it are tried all the same; a text that `print!` writes ends there.
+#[derive(Drop)]
+struct Pieces<'a, P> {
+    to: &'a P,
+}
+
+impl<P: Print> fmt::Write for Pieces<'_, P> {
+    fn write_str(&mut self, s: &str) -> fmt::Result {
+        let _ = Print::write_all(self.to, s.as_bytes());
+        Ok(())
+    }
+}
+
+// Writes a text so: what stands between the braces of its format, and what they hold, are pieces.
+pub fn put<P: Print, D: fmt::Display + Drop>(to: &P, text: D) {
+    let mut pieces = Pieces { to };
+    let _ = fmt::Write::write(&mut pieces, text);
+}
 
 // How a line differs: what was answered, and where, or that its words are not as they have to be. No Option: it is an error, which `?` makes of a malformed line.
 #[derive(Clone, Copy)]
@@ -76,28 +96,33 @@ impl Differences {
     pub fn tell<T: fmt::Display + Copy>(
         &mut self,
         out: &impl Print,
-        number: u64,
-        line: Option<&[u8]>,
+        case: Case<'_>,
+        what: Told,
         outcome: Result<(), Difference<T>>,
-    ) -> io::Result<()> {
+    ) {
         if let Err(difference) = outcome {
             if self.count < SHOWN {
-                print!(out; "line {number}: ")?;
-                if let Some(line) = line {
-                    out.write_all(line)?;
-                    print!(out; " ")?;
+                let number = case.number;
+                put(out, format_args!("line {number}: "));
+                let _ = out.write_all(case.told(what));
+                match (difference, what) {
+                    (Difference::Malformed, Told::Line) => put(
+                        out,
+                        format_args!("{}\n", " malformed"),
+                    ),
+                    (Difference::Malformed, Told::Part) => put(out, " malformed\n"),
+                    _ => put(out, format_args!("{difference}\n")),
                 }
-                println!(out; "{difference}")?;
             }
             self.count = self.count.wrapping_add(1);
         }
-        Ok(())
     }
 }
 
+// Names are pieces of their own, here and below.
 impl fmt::Display for Differences {
     fn fmt<W: fmt::Write>(&self, f: &mut fmt::Formatter<W>) -> fmt::Result {
-        write!(f, "differences {}", self.count)
+        write!(f, "{} {}", "differences", self.count)
     }
 }
 
@@ -131,22 +156,18 @@ impl<T> fmt::Display for Tally<T> {
 }
 
 // How many cases there were of each name that had any, how many in all, and how many lines differed.
-pub fn write_tallies<T>(
-    out: &impl Print,
-    tallies: &[Tally<T>],
-    differences: Differences,
-) -> io::Result<()> {
+pub fn write_tallies<T>(out: &impl Print, tallies: &[Tally<T>], differences: Differences) {
     let mut cases: u64 = 0;
     for tally in tallies {
         if tally.count > 0 {
-            println!(out; "{tally}")?;
+            put(out, format_args!("{tally}\n"));
         }
         cases = cases.wrapping_add(tally.count);
     }
-    write_cases(out, cases, differences)
+    write_cases(out, cases, differences);
 }
 
 // How many cases there were, and how many lines differed.
-pub fn write_cases(out: &impl Print, cases: u64, differences: Differences) -> io::Result<()> {
-    println!(out; "cases {cases}\n{differences}")
+pub fn write_cases(out: &impl Print, cases: u64, differences: Differences) {
+    put(out, format_args!("{} {cases}\n{differences}\n", "cases"));
 }

@@ -6,6 +6,10 @@ ghost use Rattle.test_lines.specs.Values.{is_float, has_form, taken_of, pattern_
 
 use crate::{Malformed, Word, Words};
 use std::fmt;
+use std::fmt::InlineText;
+
+// The most digits of a value. Origin: those of 64 bits, docs/CASES.md, "Words".
+const MOST_DIGITS: usize = 16;
 
 // What a word has to be: the pattern of an f32 or of an f64, a whole number, or 0 or 1.
 #[derive(Clone, Copy)]
@@ -59,11 +63,16 @@ impl fmt::Display for Shown {
     fn fmt<W: fmt::Write>(&self, f: &mut fmt::Formatter<W>) -> fmt::Result {
         let Shown { value, form } = *self;
         match value {
-            Value::Bits(b) => match form {
-                Form::Single => write!(f, "{b:08x}"),
-                Form::Double => write!(f, "{b:016x}"),
-                Form::Whole | Form::Truth => write!(f, "{b:x}"),
-            },
+            Value::Bits(b) => {
+                let digits = match form {
+                    Form::Single => 8,
+                    Form::Double => 16,
+                    Form::Whole | Form::Truth => 1,
+                };
+                // one piece, with the zeros in front
+                let text = InlineText::<MOST_DIGITS>::of(format_args!("{b:0digits$x}"));
+                f.write_str(text.as_str())
+            }
             Value::Nan => f.write_str("nan"),
         }
     }

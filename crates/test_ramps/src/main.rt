@@ -2,9 +2,9 @@
 // It writes the first five lines that differ or are malformed, how many cases there were of each function, and how many differed.
 #![tactic(auto)]
 
-use std::{fmt, io};
+use std::fmt;
 use test_lines::Words;
-use test_lines::lines::{Case, Lines, Told};
+use test_lines::lines::{Case, List, Told};
 use test_lines::report::{Difference, Tally, each_same, write_tallies};
 use test_lines::values::{Form, Pattern, Role, Shown, Value};
 
@@ -27,7 +27,7 @@ struct Other {
 impl fmt::Display for Other {
     fn fmt<W: fmt::Write>(&self, f: &mut fmt::Formatter<W>) -> fmt::Result {
         let Other { place, got } = *self;
-        write!(f, "at {place} got {got}")
+        write!(f, " at {place} got {got}")
     }
 }
 
@@ -83,12 +83,12 @@ fn replayed(case: Case<'_>, tallies: &mut [Tally<Function>]) -> Result<(), Diffe
     }
 }
 
-fn main(rt: HostRuntime) -> io::Result<()> {
+fn main(rt: HostRuntime) {
     let tallies = &mut [
         Tally::of("ramp_add", Function::RampAdd),
         Tally::of("normalized_lerp_gain", Function::NormalizedLerpGain),
     ][..];
-    let mut lines = Lines::of(rt.alloc(), rt.reader())?;
-    let differences = lines.replay(&rt, Told::Line, |case| replayed(case, tallies))?;
-    write_tallies(&rt, tallies, differences)
+    let mut list = List::of(rt.reader());
+    let differences = list.replay(&rt, Told::Line, |case| replayed(case, tallies));
+    write_tallies(&rt, tallies, differences);
 }

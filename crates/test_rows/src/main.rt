@@ -6,8 +6,8 @@ mod asked;
 mod set;
 
 use layout_record::VbapPanner;
-use std::{fmt, io};
-use test_lines::lines::{Case, Lines, Told};
+use std::fmt;
+use test_lines::lines::{Case, List, Told};
 use test_lines::report::{Difference, Differences, Tally, write_tallies};
 use test_lines::values::Shown;
 
@@ -33,9 +33,9 @@ pub enum Got {
 impl fmt::Display for Got {
     fn fmt<W: fmt::Write>(&self, f: &mut fmt::Formatter<W>) -> fmt::Result {
         match self {
-            Got::Number(got) => write!(f, "got number {got}"),
-            Got::Count(got) => write!(f, "got count {got}"),
-            Got::Place(place, got) => write!(f, "at {place} got {got}"),
+            Got::Number(got) => write!(f, " got number {got}"),
+            Got::Count(got) => write!(f, " got count {got}"),
+            Got::Place(place, got) => write!(f, " at {place} got {got}"),
         }
     }
 }
@@ -59,15 +59,11 @@ fn replayed(case: Case<'_>, rows: &mut Rows) -> Result<(), Difference<Got>> {
 }
 
 // Takes the array, whose length a proof knows: of one that a closure has changed it does not.
-fn totals(
-    out: &impl Print,
-    tallies: &[Tally<Name>; COUNT],
-    differences: Differences,
-) -> io::Result<()> {
-    write_tallies(out, tallies, differences)
+fn totals(out: &impl Print, tallies: &[Tally<Name>; COUNT], differences: Differences) {
+    write_tallies(out, tallies, differences);
 }
 
-fn main(rt: HostRuntime) -> io::Result<()> {
+fn main(rt: HostRuntime) {
     let mut rows = Rows {
         // Before the first line the layout is the one that stands beside a refusal.
         panner: layout_record::no_panner(),
@@ -78,7 +74,7 @@ fn main(rt: HostRuntime) -> io::Result<()> {
             Tally::of("num_outputs", Name::NumOutputs),
         ],
     };
-    let mut lines = Lines::of(rt.alloc(), rt.reader())?;
-    let differences = lines.replay(&rt, Told::Line, |case| replayed(case, &mut rows))?;
-    totals(&rt, &rows.tallies, differences)
+    let mut list = List::of(rt.reader());
+    let differences = list.replay(&rt, Told::Line, |case| replayed(case, &mut rows));
+    totals(&rt, &rows.tallies, differences);
 }

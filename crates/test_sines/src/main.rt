@@ -2,8 +2,6 @@
 // A program for each stored list, so a main for each.
 #![tactic(auto)]
 
-use std::io;
-
-fn main(rt: HostRuntime) -> io::Result<()> {
-    test_floats::replay(&rt)
+fn main(rt: HostRuntime) {
+    test_floats::replay(&rt);
 }
